@@ -1,0 +1,16 @@
+//! The second program: document 01 once more, by another road than a fast program
+//! would take, so that its answers can be held against those of the product.
+
+pub mod bytes;
+pub mod cbc;
+pub mod cipher;
+pub mod e2;
+pub mod entry;
+pub mod field;
+pub mod hierocrypt3;
+pub mod matrix;
+pub mod noekeon;
+pub mod random;
+pub mod refusal;
+pub mod replay;
+pub mod stream;

@@ -1,0 +1,113 @@
+//! One call of a script, and the bytes that stand for it there.
+//! Follows the page on replay, its table.
+
+use super::record::{SCHEDULE_BYTES, STREAM_BYTES};
+
+/// An output buffer before the call: `room` bytes, each of them `filler`.
+#[derive(Clone, Copy, Debug, PartialEq, Eq)]
+pub struct Buffer {
+    pub room: usize,
+    pub filler: u8,
+}
+
+impl Buffer {
+    pub fn bytes(self) -> Vec<u8> {
+        vec![self.filler; self.room]
+    }
+}
+
+/// Records stay bytes here, for a script may hold any byte in any place of them.
+#[derive(Clone, Debug, PartialEq, Eq)]
+pub enum Call {
+    SetUp {
+        cipher: u64,
+        key: Vec<u8>,
+    },
+    Encipher {
+        block: Vec<u8>,
+        buffer: Buffer,
+    },
+    Decipher {
+        block: Vec<u8>,
+        buffer: Buffer,
+    },
+    Start {
+        direction: u64,
+        first: Vec<u8>,
+    },
+    Piece {
+        piece: Vec<u8>,
+        buffer: Buffer,
+    },
+    Finish,
+    Entry {
+        cipher: u64,
+        direction: u64,
+        key: Vec<u8>,
+        block: Vec<u8>,
+        buffer: Buffer,
+    },
+    KeepSchedule(Box<[u8; SCHEDULE_BYTES]>),
+    KeepStream(Box<[u8; STREAM_BYTES]>),
+}
+
+impl Call {
+    pub fn number(&self) -> u8 {
+        match self {
+            Call::SetUp { .. } => 1,
+            Call::Encipher { .. } => 2,
+            Call::Decipher { .. } => 3,
+            Call::Start { .. } => 4,
+            Call::Piece { .. } => 5,
+            Call::Finish => 6,
+            Call::Entry { .. } => 7,
+            Call::KeepSchedule(_) => 8,
+            Call::KeepStream(_) => 9,
+        }
+    }
+
+    pub fn bytes(&self) -> Vec<u8> {
+        let number = vec![self.number()];
+        let rest = match self {
+            Call::SetUp { cipher, key } => vec![eight(*cipher), string(key)],
+            Call::Encipher { block, buffer } | Call::Decipher { block, buffer } => {
+                vec![string(block), room(*buffer)]
+            }
+            Call::Start { direction, first } => vec![eight(*direction), string(first)],
+            Call::Piece { piece, buffer } => vec![string(piece), room(*buffer)],
+            Call::Finish => vec![],
+            Call::Entry {
+                cipher,
+                direction,
+                key,
+                block,
+                buffer,
+            } => vec![
+                eight(*cipher),
+                eight(*direction),
+                string(key),
+                string(block),
+                room(*buffer),
+            ],
+            Call::KeepSchedule(bytes) => vec![bytes.to_vec()],
+            Call::KeepStream(bytes) => vec![bytes.to_vec()],
+        };
+        [number, rest.concat()].concat()
+    }
+}
+
+fn eight(number: u64) -> Vec<u8> {
+    number.to_be_bytes().to_vec()
+}
+
+fn four(length: usize) -> Vec<u8> {
+    (length as u32).to_be_bytes().to_vec()
+}
+
+fn string(bytes: &[u8]) -> Vec<u8> {
+    [&four(bytes.len()), bytes].concat()
+}
+
+fn room(buffer: Buffer) -> Vec<u8> {
+    [four(buffer.room), vec![buffer.filler]].concat()
+}

@@ -1,0 +1,97 @@
+//! A script made call by call, with everything that comes back written out.
+//! Follows the page on replay.
+
+use super::call::Call;
+use super::reader::Reader;
+use super::record::{schedule_bytes, schedule_from, stream_bytes, stream_from};
+use crate::cipher::{decipher_block, encipher_block, set_up, OneBlock, Schedule};
+use crate::entry::entry;
+use crate::stream::{feed, finish, start, Next, Stream};
+
+const BROKEN: u8 = 0xFF;
+
+/// The answers to a script; a broken one ends with the byte FF.
+pub fn run(script: &[u8]) -> Vec<u8> {
+    let mut reader = Reader::new(script);
+    let mut kept = Kept::ZERO;
+    let mut answers = Vec::new();
+    while !reader.at_end() {
+        match reader.call() {
+            Some(call) => answers.extend(kept.make(call)),
+            None => {
+                answers.push(BROKEN);
+                break;
+            }
+        }
+    }
+    answers
+}
+
+/// The one schedule and the one stream that a script works with.
+pub struct Kept {
+    schedule: Schedule,
+    stream: Stream,
+}
+
+impl Kept {
+    pub const ZERO: Kept = Kept {
+        schedule: Schedule::ZERO,
+        stream: Stream::ZERO,
+    };
+
+    /// Makes the call and gives what is written for it.
+    pub fn make(&mut self, call: Call) -> Vec<u8> {
+        match call {
+            Call::SetUp { cipher, key } => self.set_up(cipher, &key),
+            Call::Encipher { block, buffer } => {
+                one_block(encipher_block(&self.schedule, &block, &buffer.bytes()))
+            }
+            Call::Decipher { block, buffer } => {
+                one_block(decipher_block(&self.schedule, &block, &buffer.bytes()))
+            }
+            Call::Start { direction, first } => self.next(start(&self.schedule, direction, &first)),
+            Call::Piece { piece, buffer } => self.feed(&piece, &buffer.bytes()),
+            Call::Finish => self.next(finish(&self.stream)),
+            Call::Entry {
+                cipher,
+                direction,
+                key,
+                block,
+                buffer,
+            } => one_block(entry(cipher, direction, &key, &block, &buffer.bytes())),
+            Call::KeepSchedule(bytes) => {
+                self.schedule = schedule_from(&bytes);
+                Vec::new()
+            }
+            Call::KeepStream(bytes) => {
+                self.stream = stream_from(&bytes);
+                Vec::new()
+            }
+        }
+    }
+
+    fn set_up(&mut self, cipher: u64, key: &[u8]) -> Vec<u8> {
+        let back = set_up(cipher, key);
+        self.schedule = back.schedule;
+        let schedule = schedule_bytes(&self.schedule);
+        [&[back.answer.number()], &schedule[..]].concat()
+    }
+
+    fn next(&mut self, back: Next) -> Vec<u8> {
+        self.stream = back.stream;
+        let stream = stream_bytes(&self.stream);
+        [&[back.answer.number()], &stream[..]].concat()
+    }
+
+    fn feed(&mut self, piece: &[u8], out: &[u8]) -> Vec<u8> {
+        let back = feed(&self.stream, piece, out);
+        self.stream = back.stream;
+        let written = back.written.to_be_bytes();
+        let stream = stream_bytes(&self.stream);
+        [&[back.answer.number()], &written[..], &back.out, &stream].concat()
+    }
+}
+
+fn one_block(back: OneBlock) -> Vec<u8> {
+    [&[back.answer.number()], &back.out[..]].concat()
+}

@@ -1,0 +1,34 @@
+//! Replay: the script format, its interpreter, and the script that this program
+//! writes with the answers to it.
+//! Follows the page on replay: one call after the other, everything that comes back.
+
+mod blocks;
+pub mod call;
+mod entries;
+pub mod faults;
+pub mod interpreter;
+pub mod reader;
+pub mod record;
+pub mod script;
+mod states;
+mod streams;
+pub mod vectors;
+
+pub use interpreter::run;
+
+/// How much of the script is wanted: the streams part stands behind the blocks part.
+#[derive(Clone, Copy, Debug, PartialEq, Eq)]
+pub enum Extent {
+    Blocks,
+    Whole,
+}
+
+/// The script of today: the same bytes each time, the blocks part in front.
+pub fn script(extent: Extent) -> Vec<u8> {
+    let mut script = script::Script::default();
+    blocks::write(&mut script);
+    if extent == Extent::Whole {
+        streams::write(&mut script);
+    }
+    script.bytes
+}

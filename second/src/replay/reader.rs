@@ -1,0 +1,93 @@
+//! A script taken apart: one call after the other, or nothing where it is broken.
+//! Follows the page on replay, its second and last paragraphs.
+
+use super::call::{Buffer, Call};
+
+/// Strings and buffers hold at most so many bytes.
+pub const LONGEST: usize = 8192;
+
+pub struct Reader<'a> {
+    rest: &'a [u8],
+}
+
+impl<'a> Reader<'a> {
+    pub fn new(script: &'a [u8]) -> Reader<'a> {
+        Reader { rest: script }
+    }
+
+    pub fn at_end(&self) -> bool {
+        self.rest.is_empty()
+    }
+
+    /// The next call; nothing if it is unknown, too long or cut off.
+    pub fn call(&mut self) -> Option<Call> {
+        Some(match self.take(1)?[0] {
+            1 => Call::SetUp {
+                cipher: self.eight()?,
+                key: self.string()?,
+            },
+            2 => Call::Encipher {
+                block: self.string()?,
+                buffer: self.buffer()?,
+            },
+            3 => Call::Decipher {
+                block: self.string()?,
+                buffer: self.buffer()?,
+            },
+            4 => Call::Start {
+                direction: self.eight()?,
+                first: self.string()?,
+            },
+            5 => Call::Piece {
+                piece: self.string()?,
+                buffer: self.buffer()?,
+            },
+            6 => Call::Finish,
+            7 => self.entry()?,
+            8 => Call::KeepSchedule(Box::new(self.array()?)),
+            9 => Call::KeepStream(Box::new(self.array()?)),
+            _ => return None,
+        })
+    }
+
+    fn entry(&mut self) -> Option<Call> {
+        Some(Call::Entry {
+            cipher: self.eight()?,
+            direction: self.eight()?,
+            key: self.string()?,
+            block: self.string()?,
+            buffer: self.buffer()?,
+        })
+    }
+
+    fn take(&mut self, length: usize) -> Option<&'a [u8]> {
+        let taken = self.rest.get(..length)?;
+        self.rest = &self.rest[length..];
+        Some(taken)
+    }
+
+    fn array<const N: usize>(&mut self) -> Option<[u8; N]> {
+        self.take(N)?.try_into().ok()
+    }
+
+    fn eight(&mut self) -> Option<u64> {
+        self.array().map(u64::from_be_bytes)
+    }
+
+    fn length(&mut self) -> Option<usize> {
+        let length = u32::from_be_bytes(self.array()?) as usize;
+        (length <= LONGEST).then_some(length)
+    }
+
+    fn string(&mut self) -> Option<Vec<u8>> {
+        let length = self.length()?;
+        self.take(length).map(<[u8]>::to_vec)
+    }
+
+    fn buffer(&mut self) -> Option<Buffer> {
+        Some(Buffer {
+            room: self.length()?,
+            filler: self.take(1)?[0],
+        })
+    }
+}

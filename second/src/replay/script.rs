@@ -1,0 +1,93 @@
+//! A script while it is written, and the lists of values that both parts try.
+//! Follows document 01 for what is legal and what stands next to it.
+
+use super::call::{Buffer, Call};
+use super::record::{schedule_bytes, stream_bytes};
+use crate::cipher::Schedule;
+use crate::stream::Stream;
+
+/// Every cipher with each of its key lengths.
+pub const LEGAL: [(u8, u8); 7] = [
+    (1, 16),
+    (1, 24),
+    (1, 32),
+    (2, 16),
+    (2, 24),
+    (2, 32),
+    (3, 16),
+];
+
+/// Cipher numbers and directions: the legal ones and those that merely end in one.
+pub const NUMBERS: [u64; 14] = [
+    0,
+    1,
+    2,
+    3,
+    4,
+    255,
+    256,
+    257,
+    258,
+    259,
+    (1 << 32) + 1,
+    (1 << 32) + 2,
+    (1 << 63) + 3,
+    u64::MAX,
+];
+
+/// Key lengths about the legal ones, and those that merely end in a legal byte.
+pub const KEY_LENGTHS: [usize; 15] = [0, 1, 8, 15, 16, 17, 23, 24, 25, 31, 32, 33, 272, 280, 288];
+pub const BLOCK_LENGTHS: [usize; 6] = [0, 1, 15, 16, 17, 32];
+pub const ROOMS: [usize; 7] = [0, 1, 15, 16, 17, 32, 100];
+
+#[derive(Default)]
+pub struct Script {
+    pub bytes: Vec<u8>,
+}
+
+impl Script {
+    pub fn call(&mut self, call: Call) {
+        self.bytes.extend(call.bytes());
+    }
+
+    pub fn set_up(&mut self, cipher: u64, key: &[u8]) {
+        let key = key.to_vec();
+        self.call(Call::SetUp { cipher, key });
+    }
+
+    pub fn encipher(&mut self, block: &[u8], buffer: Buffer) {
+        let block = block.to_vec();
+        self.call(Call::Encipher { block, buffer });
+    }
+
+    pub fn decipher(&mut self, block: &[u8], buffer: Buffer) {
+        let block = block.to_vec();
+        self.call(Call::Decipher { block, buffer });
+    }
+
+    pub fn start(&mut self, direction: u64, first: &[u8]) {
+        let first = first.to_vec();
+        self.call(Call::Start { direction, first });
+    }
+
+    pub fn piece(&mut self, piece: &[u8], buffer: Buffer) {
+        let piece = piece.to_vec();
+        self.call(Call::Piece { piece, buffer });
+    }
+
+    pub fn finish(&mut self) {
+        self.call(Call::Finish);
+    }
+
+    pub fn keep_schedule(&mut self, schedule: &Schedule) {
+        self.call(Call::KeepSchedule(Box::new(schedule_bytes(schedule))));
+    }
+
+    pub fn keep_stream(&mut self, stream: &Stream) {
+        self.call(Call::KeepStream(Box::new(stream_bytes(stream))));
+    }
+}
+
+pub fn room(room: usize, filler: u8) -> Buffer {
+    Buffer { room, filler }
+}

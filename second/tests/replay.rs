@@ -1,0 +1,259 @@
+//! The replay: the committed files, the interpreter byte by byte, broken scripts,
+//! and what the script of today covers.
+//! Follows the page on replay.
+
+use second::cipher::{encipher_block, set_up};
+use second::replay::call::{Buffer, Call};
+use second::replay::interpreter::Kept;
+use second::replay::reader::Reader;
+use second::replay::record::{schedule_bytes, stream_bytes, CLOSED};
+use second::replay::{run, script, Extent};
+use second::stream::{feed, start};
+use std::collections::{BTreeMap, BTreeSet};
+
+fn committed(name: &str) -> Vec<u8> {
+    let path = format!("{}/replay/{name}", env!("CARGO_MANIFEST_DIR"));
+    std::fs::read(path).unwrap()
+}
+
+#[test]
+fn the_committed_files_are_what_is_written_today() {
+    let script = script(Extent::Whole);
+    assert!(committed("script") == script, "the script differs");
+    assert!(committed("answers") == run(&script), "the answers differ");
+    assert!(script.len() < 1_000_000 && run(&script).len() < 1_000_000);
+}
+
+#[test]
+fn the_blocks_part_is_a_prefix_of_both_files() {
+    let blocks = script(Extent::Blocks);
+    let whole = script(Extent::Whole);
+    assert!(blocks.len() < whole.len());
+    assert!(whole.starts_with(&blocks));
+    assert!(run(&whole).starts_with(&run(&blocks)));
+}
+
+fn calls(script: &[u8]) -> Vec<Call> {
+    let mut reader = Reader::new(script);
+    let mut calls = Vec::new();
+    while !reader.at_end() {
+        calls.push(reader.call().expect("the script isn't broken"));
+    }
+    calls
+}
+
+#[test]
+fn calls_read_back_are_the_calls_written() {
+    let script = script(Extent::Whole);
+    let written: Vec<u8> = calls(&script).iter().flat_map(Call::bytes).collect();
+    assert!(written == script);
+}
+
+#[test]
+fn the_parts_hold_the_calls_they_are_for() {
+    let numbers =
+        |script: &[u8]| -> BTreeSet<u8> { calls(script).iter().map(Call::number).collect() };
+    let blocks = script(Extent::Blocks);
+    assert_eq!(numbers(&blocks), BTreeSet::from([1, 2, 3, 7, 8]));
+    assert_eq!(numbers(&script(Extent::Whole)), BTreeSet::from_iter(1..=9));
+}
+
+#[test]
+fn every_answer_of_every_call_occurs() {
+    let mut kept = Kept::ZERO;
+    let mut answers: BTreeMap<u8, BTreeSet<u8>> = BTreeMap::new();
+    for call in calls(&script(Extent::Whole)) {
+        let number = call.number();
+        if let Some(&answer) = kept.make(call).first() {
+            answers.entry(number).or_default().insert(answer);
+        }
+    }
+    let expected = BTreeMap::from([
+        (1, BTreeSet::from([0, 1, 2])),
+        (2, BTreeSet::from([0, 5, 9, 11])),
+        (3, BTreeSet::from([0, 5, 9, 11])),
+        (4, BTreeSet::from([0, 3, 4, 5])),
+        (5, BTreeSet::from([0, 6, 7, 8, 9])),
+        (6, BTreeSet::from([0, 6, 7, 10])),
+        (7, BTreeSet::from([0, 1, 2, 4, 9, 11])),
+    ]);
+    assert_eq!(answers, expected);
+}
+
+fn hex(text: &str) -> Vec<u8> {
+    let digits: String = text.split_whitespace().collect();
+    (0..digits.len() / 2)
+        .map(|i| u8::from_str_radix(&digits[2 * i..2 * i + 2], 16).unwrap())
+        .collect()
+}
+
+const KEY: &str = "000102030405060708090A0B0C0D0E0F";
+const BLOCK: &str = "F0E0D0C0B0A090807060504030201000";
+
+fn set_up_call() -> Vec<u8> {
+    hex(&format!("01 0000000000000003 00000010 {KEY}"))
+}
+
+#[test]
+fn set_up_and_one_block_byte_by_byte() {
+    let script = [
+        set_up_call(),
+        hex(&format!("02 00000010 {BLOCK} 00000012 5A")),
+        hex("03 00000001 77 00000002 5A"),
+    ];
+    let schedule = set_up(3, &hex(KEY)).schedule;
+    let block = encipher_block(&schedule, &hex(BLOCK), &[0x5A; 18]).out;
+    let expected = [
+        &[0][..],
+        &schedule_bytes(&schedule),
+        &[0],
+        &block,
+        &[11, 0x5A, 0x5A],
+    ];
+    assert_eq!(run(&script.concat()), expected.concat());
+    assert_eq!(block[16..], [0x5A, 0x5A]);
+}
+
+#[test]
+fn a_stream_byte_by_byte() {
+    let script = [
+        set_up_call(),
+        hex(&format!("04 0000000000000001 00000010 {BLOCK}")),
+        hex("05 00000003 AABBCC 00000001 66"),
+        hex("06"),
+    ];
+    let schedule = set_up(3, &hex(KEY)).schedule;
+    let started = start(&schedule, 1, &hex(BLOCK)).stream;
+    let fed = feed(&started, &[0xAA, 0xBB, 0xCC], &[0x66]).stream;
+    let expected = [
+        &[0][..],
+        &schedule_bytes(&schedule),
+        &[0],
+        &stream_bytes(&started),
+        &[0],
+        &[0; 8],
+        &[0x66],
+        &stream_bytes(&fed),
+        &[10],
+        &stream_bytes(&fed),
+    ];
+    assert_eq!(run(&script.concat()), expected.concat());
+}
+
+/// The 331 bytes of a stream: schedule, direction, count, chain, held, closed.
+#[test]
+fn the_records_lie_as_the_page_says() {
+    let schedule = set_up(3, &hex(KEY)).schedule;
+    let stream = start(&schedule, 2, &hex(BLOCK)).stream;
+    let bytes = stream_bytes(&feed(&stream, &[0x99; 3], &[]).stream);
+    let expected = [
+        hex("03 10"),
+        hex(KEY),
+        vec![0; 272],
+        hex("02 0000000000000003"),
+        hex(BLOCK),
+        hex("999999"),
+        vec![0; 12],
+        vec![0],
+    ];
+    assert_eq!(bytes[..], expected.concat());
+    assert_eq!(CLOSED, 330);
+}
+
+#[test]
+fn the_entry_byte_by_byte() {
+    let script = format!(
+        "07 0000000000000003 0000000000000002 00000010 {KEY} 00000010 {BLOCK} 00000010 00
+         07 0000000000000103 0000000000000002 00000010 {KEY} 00000010 {BLOCK} 00000001 44"
+    );
+    let schedule = set_up(3, &hex(KEY)).schedule;
+    let block = schedule.decipher(hex(BLOCK).try_into().unwrap());
+    let expected = [&[0][..], &block, &[1, 0x44]];
+    assert_eq!(run(&hex(&script)), expected.concat());
+}
+
+#[test]
+fn refused_records_are_kept_too() {
+    let script = [
+        set_up_call(),
+        hex("01 0000000000000004 00000000"),
+        hex(&format!("02 00000010 {BLOCK} 00000000 00")),
+        hex("06"),
+    ];
+    let answers = run(&script.concat());
+    let refused = [&[1][..], &[0; 290], &[5], &[6], &[0; 331]];
+    assert_eq!(answers[291..], refused.concat());
+}
+
+#[test]
+fn a_closed_byte_over_1_counts_as_1() {
+    for closed in [1, 2, 0x80, 0xFF] {
+        let schedule = set_up(3, &hex(KEY)).schedule;
+        let mut bytes = stream_bytes(&start(&schedule, 1, &hex(BLOCK)).stream);
+        bytes[CLOSED] = closed;
+        let answers = run(&[&[9][..], &bytes, &[6]].concat());
+        bytes[CLOSED] = 1;
+        assert_eq!(answers, [&[7][..], &bytes].concat());
+    }
+}
+
+#[test]
+fn an_empty_script_has_no_answers() {
+    assert_eq!(run(&[]), []);
+}
+
+#[test]
+fn an_unknown_call_ends_with_ff() {
+    for number in [0, 10, 11, 0x7F, 0xFF] {
+        let script = [set_up_call(), vec![number], set_up_call()].concat();
+        let answers = run(&script);
+        assert_eq!(answers.len(), 292);
+        assert_eq!(answers[291], 0xFF);
+    }
+}
+
+#[test]
+fn a_length_over_8192_ends_with_ff() {
+    let at_the_limit = Call::Encipher {
+        block: vec![0; 8192],
+        buffer: Buffer {
+            room: 8192,
+            filler: 1,
+        },
+    };
+    let answers = run(&at_the_limit.bytes());
+    assert_eq!(answers, [vec![5], vec![1; 8192]].concat());
+    let long_string = [hex("02 00002001"), vec![0; 8193], hex("00000010 00")].concat();
+    assert_eq!(run(&long_string), [0xFF]);
+    let long_buffer = hex(&format!("02 00000010 {BLOCK} 00002001 00 06"));
+    assert_eq!(run(&long_buffer), [0xFF]);
+    let longest = hex("05 FFFFFFFF");
+    assert_eq!(run(&longest), [0xFF]);
+}
+
+#[test]
+fn a_script_cut_anywhere_within_a_call_ends_with_ff() {
+    let stream = [vec![9], vec![0; 331]].concat();
+    let schedule = [vec![8], vec![0; 290]].concat();
+    let calls = [
+        set_up_call(),
+        hex(&format!("02 00000010 {BLOCK} 00000010 00")),
+        hex(&format!("03 00000010 {BLOCK} 00000010 00")),
+        hex(&format!("04 0000000000000001 00000010 {BLOCK}")),
+        hex(&format!("05 00000010 {BLOCK} 00000010 00")),
+        hex(&format!(
+            "07 0000000000000003 0000000000000002 00000010 {KEY} 00000010 {BLOCK} 00000010 00"
+        )),
+        schedule,
+        stream,
+    ];
+    for call in calls {
+        assert_ne!(run(&call), [0xFF]);
+        for length in 1..call.len() {
+            assert_eq!(run(&call[..length]), [0xFF]);
+            let behind = [hex("06"), call[..length].to_vec()].concat();
+            let answers = run(&behind);
+            assert_eq!((answers.len(), answers[332]), (333, 0xFF));
+        }
+    }
+}
