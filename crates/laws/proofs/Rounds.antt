@@ -1,0 +1,73 @@
+-- Rounds by their numbers: the loops that make them, and how they are undone.
+use mathlib.Core.Path.{_≡_, refl, sym, ap, _∙_}
+use Prim.Native.Nat.{ℕ, zero, suc, _+_, _-_, _≤_, _<_}
+use native.Mathlib.Nat.{le-suc, le-trans}
+use native.Mathlib.Numerals.{add-one}
+use native.Mathlib.Omega.{arith}
+use Rattle.laws.specs.Rounds.{steps, back}
+
+module _ {A : Type 0} where
+  -- ---- the loop `q = f(i, q); i += 1;`, from a: its invariant
+  pub record Stepped (f : ℕ → A → A) (a : A) (i : ℕ) (q : A) : Type 0 where
+    pub is : q ≡ steps i f a
+
+  pub steps-start : (f : ℕ → A → A) (a : A) → Stepped f a 0 a
+  steps-start f a = record { is = refl }
+
+  pub steps-step : {f : ℕ → A → A} {a : A} {i : ℕ} {q r : A} → Stepped f a i q → r ≡ f i q → Stepped f a (i + 1) r
+  steps-step {f} {a} {i} e d = record { is = d ∙ ap (f i) (e .is) ∙ ap (λ (n : ℕ). steps n f a) (sym (add-one i)) }
+
+  pub steps-end : {f : ℕ → A → A} {a : A} {i : ℕ} {q : A} (n : ℕ) → Stepped f a i q → i ≤ n → n ≤ i → q ≡ steps n f a
+  steps-end {f} {a} {i} n e h l = let d : i ≡ n = omega arith in e .is ∙ ap (λ (m : ℕ). steps m f a) d
+
+  -- ---- the loop `i -= 1; q = g(i, q);`, towards t: its invariant
+  pub record Falling (g : ℕ → A → A) (t : A) (i : ℕ) (q : A) : Type 0 where
+    pub is : back i g q ≡ t
+
+  pub back-start : (g : ℕ → A → A) (a : A) (n : ℕ) → Falling g (back n g a) n a
+  back-start g a n = record { is = refl }
+
+  pub back-step : {g : ℕ → A → A} {t : A} {i : ℕ} {q r : A} → Falling g t i q → 0 < i → r ≡ g (i - 1) q → Falling g t (i - 1) r
+  back-step {g} {t} {i} {q} {r} e h d =
+      let p : suc (i - 1) ≡ i = omega arith in
+      record { is = ap (back (i - 1) g) d ∙ ap (λ (n : ℕ). back n g q) p ∙ e .is }
+
+  pub back-end : {g : ℕ → A → A} {t : A} {i : ℕ} {q : A} → Falling g t i q → i ≤ 0 → q ≡ t
+  back-end {g} {t} {i} {q} e h = let d : 0 ≡ i = omega arith in ap (λ (n : ℕ). back n g q) d ∙ e .is
+
+  -- the first round first
+  pub steps-front : (n : ℕ) (f : ℕ → A → A) (a : A) → steps (suc n) f a ≡ steps n (λ j. f (suc j)) (f 0 a)
+  steps-front zero f a = refl
+  steps-front (suc n) f a = ap (f (suc n)) (steps-front n f a)
+
+  -- what each round keeps, the rounds keep
+  pub steps-keep : (P : A → Type 0) (n : ℕ) (f : ℕ → A → A) → ((i : ℕ) (a : A) → i < n → P a → P (f i a)) → (a : A) → P a → P (steps n f a)
+  steps-keep P zero f h a p = p
+  steps-keep P (suc n) f h a p =
+      h n (steps n f a) (omega arith) (steps-keep P n f (λ i b l q. h i b (le-trans l (le-suc n)) q) a p)
+
+pub ruleset loops = (steps-start, steps-step, back-start, back-step, back-end)
+
+-- ---- rounds that undo themselves: m undoes m, and u undoes t. n rounds m (t a) with t at the end are undone by n rounds m (u a) with u at the end
+module _ {A : Type 0} (P : A → Type 0) (m t u : A → A) (m-keeps : (a : A) → P a → P (m a)) (t-keeps : (a : A) → P a → P (t a))
+    (m-m : (a : A) → P a → m (m a) ≡ a) (u-t : (a : A) → P a → u (t a) ≡ a) where
+  rounds-keep : (n : ℕ) (a : A) → P a → P (steps n (λ i q. m (t q)) a)
+  rounds-keep n = steps-keep P n (λ i q. m (t q)) (λ i a l p. m-keeps (t a) (t-keeps a p))
+
+  -- which of equal rounds comes first does not matter
+  shift : (n : ℕ) (a : A) → steps n (λ i q. m (u q)) (m (u a)) ≡ steps (suc n) (λ i q. m (u q)) a
+  shift zero a = refl
+  shift (suc n) a = ap (λ (q : A). m (u q)) (shift n a)
+
+  half-way : (n : ℕ) (a : A) → P a → steps n (λ i q. m (u q)) (t (steps n (λ i q. m (t q)) a)) ≡ t a
+  half-way zero a p = refl
+  half-way (suc n) a p =
+      let y : A = steps n (λ i q. m (t q)) a in
+      let py : P y = rounds-keep n a p in
+      sym (shift n (t (m (t y))))
+      ∙ ap (λ (q : A). steps n (λ i r. m (u r)) (m q)) (u-t (m (t y)) (m-keeps (t y) (t-keeps y py)))
+      ∙ ap (steps n (λ i q. m (u q))) (m-m (t y) (t-keeps y py))
+      ∙ half-way n a p
+
+  pub mirrored-undo : (n : ℕ) (a : A) → P a → u (steps n (λ i q. m (u q)) (t (steps n (λ i q. m (t q)) a))) ≡ a
+  mirrored-undo n a p = ap u (half-way n a p) ∙ u-t a p
