@@ -1,3 +1,4 @@
+pub mod Choice
 pub mod Places
 pub mod Bytes
 pub mod Turn

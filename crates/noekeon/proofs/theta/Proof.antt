@@ -1,0 +1,35 @@
+use mathlib.Core.Path.{ap, _∙_}
+use Prim.Native.Nat.{ℕ}
+use lib.Bits.{bitXor}
+use Rattle.noekeon.specs.Noekeon.{S}
+use Rattle.noekeon.specs.declared.Quad.{Quad}
+use borrow.Author.Needs.{needs}
+use Rattle.noekeon.proofs.theta.Statement.{statement}
+use Rattle.noekeon.proofs.theta.Tie as tie
+
+-- the result, by what the two calls give
+abbrev given : Quad → Quad → ℕ → ℕ → Quad
+given k p t u = record {
+  p0 = bitXor (bitXor (p .p0) (k .p0)) u;
+  p1 = bitXor (bitXor (p .p1) t) (k .p1);
+  p2 = bitXor (bitXor (p .p2) (k .p2)) u;
+  p3 = bitXor (bitXor (p .p3) t) (k .p3);
+}
+
+spread-requires : tie.Need-spread-requires
+spread-requires c κs = search needs
+
+spread-requires-2 : tie.Need-spread-requires-2
+spread-requires-2 c κs = search needs
+
+returns : tie.Need-returns
+returns c =
+    let at-u = c .before .before .before .before in
+    let at-t = at-u .before .before .before .before .before in
+    let k = at-t .before .before .args .k in
+    let p = at-t .before .before .args .p in
+    ap (given k p (at-t .spread .result)) (at-u .spread2 .ensures)
+    ∙ ap (λ (t : ℕ). given k p t (S (bitXor (bitXor (bitXor (p .p1) t) (k .p1)) (bitXor (bitXor (p .p3) t) (k .p3))))) (at-t .spread .ensures)
+
+pub theta-spec : {M : Type 1} → statement M
+theta-spec = tie.close (tie.spec spread-requires spread-requires-2 returns)
