@@ -1,0 +1,13 @@
+pub mod Parts
+pub mod XorWords
+pub mod OnWords
+pub mod Permuted
+pub mod KeyedRounds
+pub mod TableRule
+pub mod StepsOfP
+pub mod StayBytes
+pub mod OfWords
+pub mod RoundFunction
+pub mod Undoes
+pub mod KeyParts
+pub mod KeysAreBytes

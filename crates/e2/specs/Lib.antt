@@ -1,0 +1,4 @@
+pub mod Steps
+pub mod Block
+pub mod Keys
+pub mod Layout
