@@ -1,0 +1,113 @@
+-- MDS_H and its inverse (002, section 3.2) undo one another, and are what the code does with one row of matrices. Each is written over any sum, so that the equations
+-- are solved over unknowns.
+use mathlib.Core.Path.{_≡_, refl, sym, ap, _∙_}
+use mathlib.Core.List.{List, [], _∷_}
+use Prim.Native.Nat.{ℕ, _+_, _*_, _/_, _%_}
+use lib.Pow.{pow-pos}
+use lib.Bits.{bitXor}
+use lib.ListN.{getD}
+use Rattle.laws.specs.Places.{tab, Each}
+use Rattle.laws.specs.Bytes.{Byte, Bytes}
+use Rattle.laws.specs.Matrix.{total, pick, bitMatrix}
+use Rattle.laws.specs.Inverse.{Inverse}
+use Rattle.laws.proofs.Places.{tab-is, tab-self, each-tab}
+use Rattle.laws.proofs.XorLists.{xorL-bytes}
+use Rattle.laws.proofs.Rounds.{steps-keep}
+use Rattle.laws.proofs.Matrix.{pick-lt, total-lt}
+use Rattle.laws.proofs.Sums.{Sum, solve-lists}
+use Rattle.laws.proofs.Sums.Sum.{at, zer, _⊕_}
+use Rattle.hierocrypt3.specs.Operations.{rowsH, rowsH⁻, addColumns, onColumns, MDSH, MDSH⁻}
+use Rattle.hierocrypt3.specs.Columns.{rowH, rowH⁻, turnedColumns}
+use Rattle.hierocrypt3.proofs.Default.{each-default}
+
+abbrev pub Block : List (List ℕ) → Type 0
+Block = Each (Bytes 4) [] 4
+
+-- sixteen values as four columns
+abbrev pub columns : {A : Type 0} → (ℕ → A) → List (List A)
+columns f = tab 4 (λ i. tab 4 (λ k. f (i * 4 + k)))
+
+abbrev pub entry : List (List ℕ) → ℕ → ℕ
+entry x n = getD (getD x (n / 4) []) (n % 4) 0
+
+pub block-columns : (x : List (List ℕ)) → Block x → x ≡ columns (entry x)
+block-columns x w =
+    tab-is 4 (λ i. tab 4 (λ k. getD (getD x i []) k 0)) [] x (w .long) (λ i h. tab-self 4 0 (getD x i []) (w .each i h .long))
+
+vars : List (List Sum)
+vars = columns at
+
+-- two functions of a block that agree on sixteen unknowns agree
+module _ (F G : List (List ℕ) → List (List ℕ)) (agree : (f : ℕ → ℕ) → F (columns f) ≡ G (columns f)) where
+  on-blocks : (x : List (List ℕ)) → Block x → F x ≡ G x
+  on-blocks x w = ap F (block-columns x w) ∙ agree (entry x) ∙ sym (ap G (block-columns x w))
+
+-- ---- as the code does it: four columns, each by one row of matrices
+turned : (x : List (List ℕ)) → Block x → turnedColumns bitXor 0 (rowH bitXor 0) x ≡ MDSH x
+unfolding MDSH vars
+turned =
+    on-blocks (turnedColumns bitXor 0 (rowH bitXor 0)) MDSH
+    (λ f. solve-lists (λ x. x) (λ x y. refl) (tab 16 f) (turnedColumns _⊕_ zer (rowH _⊕_ zer) vars) (onColumns _⊕_ zer rowsH vars) tt)
+
+turned⁻ : (x : List (List ℕ)) → Block x → turnedColumns bitXor 0 (rowH⁻ bitXor 0) x ≡ MDSH⁻ x
+unfolding MDSH⁻ vars
+turned⁻ =
+    on-blocks (turnedColumns bitXor 0 (rowH⁻ bitXor 0)) MDSH⁻
+    (λ f. solve-lists (λ x. x) (λ x y. refl) (tab 16 f) (turnedColumns _⊕_ zer (rowH⁻ _⊕_ zer) vars) (onColumns _⊕_ zer rowsH⁻ vars) tt)
+
+module _ (x : List (List ℕ)) (w : Block x) where
+  abbrev x0 : List ℕ
+  x0 = getD x 0 []
+
+  abbrev x1 : List ℕ
+  x1 = getD x 1 []
+
+  abbrev x2 : List ℕ
+  x2 = getD x 2 []
+
+  abbrev x3 : List ℕ
+  x3 = getD x 3 []
+
+  pub mdsH-columns : {y0 y1 y2 y3 : List ℕ} → y0 ≡ rowH bitXor 0 x0 x1 x2 x3 → y1 ≡ rowH bitXor 0 x1 x2 x3 x0
+      → y2 ≡ rowH bitXor 0 x2 x3 x0 x1 → y3 ≡ rowH bitXor 0 x3 x0 x1 x2 → y0 ∷ y1 ∷ y2 ∷ y3 ∷ [] ≡ MDSH x
+  mdsH-columns e0 e1 e2 e3 = (λ i. e0 i ∷ e1 i ∷ e2 i ∷ e3 i ∷ []) ∙ turned x w
+
+  pub mdsH⁻-columns : {y0 y1 y2 y3 : List ℕ} → y0 ≡ rowH⁻ bitXor 0 x0 x1 x2 x3 → y1 ≡ rowH⁻ bitXor 0 x1 x2 x3 x0
+      → y2 ≡ rowH⁻ bitXor 0 x2 x3 x0 x1 → y3 ≡ rowH⁻ bitXor 0 x3 x0 x1 x2 → y0 ∷ y1 ∷ y2 ∷ y3 ∷ [] ≡ MDSH⁻ x
+  mdsH⁻-columns e0 e1 e2 e3 = (λ i. e0 i ∷ e1 i ∷ e2 i ∷ e3 i ∷ []) ∙ turned⁻ x w
+
+-- ---- there and back
+undo : (x : List (List ℕ)) → Block x → MDSH⁻ (MDSH x) ≡ x
+unfolding MDSH MDSH⁻ vars
+undo =
+    on-blocks (λ x. MDSH⁻ (MDSH x)) (λ x. x)
+    (λ f. solve-lists (λ x. x) (λ x y. refl) (tab 16 f) (onColumns _⊕_ zer rowsH⁻ (onColumns _⊕_ zer rowsH vars)) vars tt)
+
+redo : (x : List (List ℕ)) → Block x → MDSH (MDSH⁻ x) ≡ x
+unfolding MDSH MDSH⁻ vars
+redo =
+    on-blocks (λ x. MDSH (MDSH⁻ x)) (λ x. x)
+    (λ f. solve-lists (λ x. x) (λ x y. refl) (tab 16 f) (onColumns _⊕_ zer rowsH (onColumns _⊕_ zer rowsH⁻ vars)) vars tt)
+
+-- ---- bytes stay bytes
+pub bit-matrix-bytes : (m : List (List ℕ)) (x : List ℕ) → Bytes 4 x → Bytes 4 (bitMatrix bitXor 0 4 m x)
+bit-matrix-bytes m x w =
+    each-tab Byte 0 4 (λ i. total bitXor 0 4 (λ j. pick bitXor 0 (getD (getD m i []) j 0) (getD x j 0)))
+    (λ i h. total-lt 8 4 (λ j. pick bitXor 0 (getD (getD m i []) j 0) (getD x j 0))
+    (λ j l. pick-lt 8 (getD (getD m i []) j 0) (getD x j 0) (w .each j l)))
+
+abbrev none : List ℕ
+none = tab 4 (λ k. 0)
+
+on-columns-bytes : (rows : List (List (List (List ℕ)))) (x : List (List ℕ)) → Block x → Block (onColumns bitXor 0 rows x)
+on-columns-bytes rows x w =
+    let term : ℕ → ℕ → List ℕ = λ i j. bitMatrix bitXor 0 4 (getD (getD rows i []) j []) (getD x j none) in
+    each-tab (Bytes 4) [] 4 (λ i. total (addColumns bitXor 0) none 4 (term i))
+    (λ i h.
+    steps-keep (Bytes 4) 4 (λ j y. addColumns bitXor 0 y (term i j))
+    (λ j y l v. xorL-bytes 4 y (term i j) v (bit-matrix-bytes (getD (getD rows i []) j []) (getD x j none) (each-default [] none 4 x w j l)))
+    none (each-tab Byte 0 4 (λ k. 0) (λ k l. pow-pos 8)))
+
+pub mdsH-inverse : Inverse Block MDSH MDSH⁻
+unfolding MDSH MDSH⁻
+mdsH-inverse = record { on = on-columns-bytes rowsH; off = on-columns-bytes rowsH⁻; undo = undo; redo = redo }

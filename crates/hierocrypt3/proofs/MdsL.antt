@@ -1,0 +1,41 @@
+-- mds_L (002, section 3.7): what the turned sum of the tables' words gives, and that it and its inverse undo one another.
+use mathlib.Core.Path.{_≡_, refl}
+use mathlib.Core.List.{List, [], _∷_}
+use Prim.Native.Nat.{ℕ}
+use lib.Dec.{lit<}
+use lib.Bits.{bitXor}
+use lib.ListN.{getD}
+use Rattle.laws.specs.Bytes.{Bytes, bytesOf}
+use Rattle.laws.specs.Turn.{rol}
+use Rattle.laws.specs.Field.{product}
+use Rattle.laws.specs.Inverse.{Inverse}
+use Rattle.laws.proofs.Field.{product-lt, product-xor-r}
+use Rattle.laws.proofs.Matrix.{matrix-inverse}
+use Rattle.hierocrypt3.specs.Operations.{p, s, rowsL, rowsL⁻, mdsL, mdsL⁻}
+use Rattle.hierocrypt3.specs.Tables.{t, u}
+use Rattle.hierocrypt3.specs.Columns.{sColumn}
+use Rattle.hierocrypt3.proofs.Circulant.{turned-bytes}
+
+abbrev turnedSum : ℕ → ℕ → ℕ → ℕ → ℕ
+turnedSum x y z w = bitXor (bitXor (bitXor x (rol 32 24 y)) (rol 32 16 z)) (rol 32 8 w)
+
+pub mdsL-turned : (x : List ℕ) → bytesOf (turnedSum (t (getD x 0 0)) (t (getD x 1 0)) (t (getD x 2 0)) (t (getD x 3 0)) ∷ []) ≡ mdsL (sColumn x)
+unfolding t mdsL
+mdsL-turned x =
+    turned-bytes (product p 0xc4) (product p 0x8b) (product p 0xc8) (product p 0x65)
+    (λ y. product-lt p 0xc4 y refl (lit< tt)) (λ y. product-lt p 0x8b y refl (lit< tt))
+    (λ y. product-lt p 0xc8 y refl (lit< tt)) (λ y. product-lt p 0x65 y refl (lit< tt))
+    (s (getD x 0 0)) (s (getD x 1 0)) (s (getD x 2 0)) (s (getD x 3 0))
+
+pub mdsL⁻-turned : (x : List ℕ) → bytesOf (turnedSum (u (getD x 0 0)) (u (getD x 1 0)) (u (getD x 2 0)) (u (getD x 3 0)) ∷ []) ≡ mdsL⁻ x
+unfolding u mdsL⁻
+mdsL⁻-turned x =
+    turned-bytes (product p 0x82) (product p 0xf6) (product p 0x34) (product p 0xc4)
+    (λ y. product-lt p 0x82 y refl (lit< tt)) (λ y. product-lt p 0xf6 y refl (lit< tt))
+    (λ y. product-lt p 0x34 y refl (lit< tt)) (λ y. product-lt p 0xc4 y refl (lit< tt))
+    (getD x 0 0) (getD x 1 0) (getD x 2 0) (getD x 3 0)
+
+pub mdsL-inverse : Inverse (Bytes 4) mdsL mdsL⁻
+unfolding mdsL mdsL⁻ product
+mdsL-inverse =
+    matrix-inverse 8 4 (product p) (λ c x y hx hy. product-xor-r p c x y) (λ c x hc hx. product-lt p c x refl hc) rowsL rowsL⁻ tt tt tt tt

@@ -1,0 +1,35 @@
+use mathlib.Core.Path.{_≡_, ap, _∙_}
+use Prim.Native.Nat.{ℕ, _+_, _-_, _/_}
+use native.Mathlib.Omega.{arith}
+use borrow.Author.Needs.{needs}
+use Rattle.laws.specs.Places.{quarters, joined}
+use Rattle.hierocrypt3.specs.Block.{T, roundKey, decryption, decipher}
+use Rattle.hierocrypt3.proofs.block.decipher_with.Statement.{statement}
+use Rattle.hierocrypt3.proofs.block.decipher_with.Tie as tie
+
+add-decryption : tie.Need-add-decryption
+add-decryption c = search needs
+
+columns-requires : tie.Need-columns-requires
+columns-requires c κs = search needs
+
+decryption-requires : tie.Need-decryption-requires
+decryption-requires c κs = search needs
+
+bytes-requires : tie.Need-bytes-requires
+bytes-requires c κs = search needs
+
+returns : tie.Need-returns
+unfolding decipher
+returns c =
+    let args = c .before .before .before .args in
+    let k = roundKey (args .keys .now) in
+    let len = args .length in
+    let e : len / 8 + 3 ≡ T len - 1 = omega arith in
+    c .bytes .ensures
+    ∙ ap (joined 0 4) (c .before .decryption .ensures ∙ ap (decryption (len / 8 + 3) k) (c .before .before .columns .ensures) ∙ ap
+    (λ (n : ℕ). decryption n k (quarters 0 4 (args .block))) e)
+
+pub decipher-with-spec : {M : Type 1} → statement M
+decipher-with-spec =
+    tie.close (tie.spec add-decryption columns-requires decryption-requires bytes-requires returns)

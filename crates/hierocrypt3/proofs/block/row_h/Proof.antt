@@ -1,0 +1,44 @@
+use mathlib.Core.Path.{_∙_}
+use lib.Bits.{bitXor}
+use borrow.Author.Needs.{needs}
+use Rattle.laws.specs.Matrix.{bitMatrix}
+use Rattle.hierocrypt3.specs.Operations.{a, addColumns}
+use Rattle.hierocrypt3.proofs.block.row_h.Statement.{statement}
+use Rattle.hierocrypt3.proofs.block.row_h.Tie as tie
+
+xor4-requires : tie.Need-xor4-requires
+xor4-requires c κs = search needs
+
+bit-matrix-requires : tie.Need-bit-matrix-requires
+bit-matrix-requires c κs = search needs
+
+bit-matrix-requires-2 : tie.Need-bit-matrix-requires-2
+bit-matrix-requires-2 c κs = search needs
+
+bit-matrix-requires-3 : tie.Need-bit-matrix-requires-3
+bit-matrix-requires-3 c κs = search needs
+
+xor4-requires-2 : tie.Need-xor4-requires-2
+xor4-requires-2 c κs = search needs
+
+xor4-requires-3 : tie.Need-xor4-requires-3
+xor4-requires-3 c κs = search needs
+
+returns : tie.Need-returns
+returns c =
+    c .xor43 .ensures
+    ∙ (λ i. addColumns bitXor 0 (c .before .before .before .before .bit-matrix .ensures i) (c .before .xor42 .ensures i))
+    ∙ (λ i. addColumns bitXor 0 (bitMatrix bitXor 0 4 a (c .before .before .before .before .before .xor4 .ensures i))
+    (addColumns bitXor 0 (c .before .before .before .bit-matrix2 .ensures i) (c .before .before .bit-matrix3 .ensures i)))
+
+pub row-h-spec : {M : Type 1} → statement M
+row-h-spec =
+    tie.close
+    (tie.spec
+    xor4-requires
+    bit-matrix-requires
+    bit-matrix-requires-2
+    bit-matrix-requires-3
+    xor4-requires-2
+    xor4-requires-3
+    returns)
