@@ -1,0 +1,37 @@
+-- 01, 'Marked cases': one table, in its order, of what the definitions give and what they shall give; a case is a number or a list of them.
+use mathlib.Core.Path.{_≡_}
+use mathlib.Core.List.{List, [], _∷_}
+use Prim.Native.Nat.{ℕ}
+use Rattle.laws.specs.Places.{tab}
+use Rattle.noekeon.specs.Noekeon.{S, θ, γ, zeroKey}
+use Rattle.noekeon.specs.declared.Quad.{Quad}
+use Rattle.e2.specs.Steps as e2
+use Rattle.hierocrypt3.specs.Operations as hierocrypt3
+
+abbrev quad : ℕ → ℕ → ℕ → ℕ → Quad
+quad a b c d = record { p0 = a; p1 = b; p2 = c; p3 = d }
+
+abbrev words : Quad → List ℕ
+words p = p .p0 ∷ p .p1 ∷ p .p2 ∷ p .p3 ∷ []
+
+unfoldable pub cases : List (List ℕ × List ℕ)
+cases =
+    (hierocrypt3.s 0x00 ∷ [], 0x07 ∷ [])
+    ∷ (hierocrypt3.s 0x01 ∷ [], 0xfc ∷ [])
+    ∷ (e2.s 0 ∷ [], 225 ∷ [])
+    ∷ (e2.s 1 ∷ [], 66 ∷ [])
+    ∷ (e2.inverse 3 ∷ [], 2863311531 ∷ [])
+    ∷ (e2.BRL (tab 8 (λ j. j)), 1 ∷ 2 ∷ 3 ∷ 4 ∷ 5 ∷ 6 ∷ 7 ∷ 0 ∷ [])
+    ∷ (e2.BP (tab 16 (λ j. j)), 0 ∷ 5 ∷ 10 ∷ 15 ∷ 4 ∷ 9 ∷ 14 ∷ 3 ∷ 8 ∷ 13 ∷ 2 ∷ 7 ∷ 12 ∷ 1 ∷ 6 ∷ 11 ∷ [])
+    ∷ (e2.P (1 ∷ 0 ∷ 0 ∷ 0 ∷ 0 ∷ 0 ∷ 0 ∷ 0 ∷ []), 0 ∷ 1 ∷ 1 ∷ 1 ∷ 1 ∷ 1 ∷ 0 ∷ 1 ∷ [])
+    ∷ (e2.P (0 ∷ 0 ∷ 0 ∷ 0 ∷ 0 ∷ 0 ∷ 0 ∷ 1 ∷ []), 0 ∷ 1 ∷ 1 ∷ 1 ∷ 0 ∷ 0 ∷ 1 ∷ 1 ∷ [])
+    ∷ (hierocrypt3.P 1 (1 ∷ 2 ∷ 4 ∷ 8 ∷ []), 5 ∷ 10 ∷ 14 ∷ 13 ∷ [])
+    ∷ (hierocrypt3.mdsL (0x01 ∷ 0 ∷ 0 ∷ 0 ∷ []), 0xc4 ∷ 0x8b ∷ 0xc8 ∷ 0x65 ∷ [])
+    ∷ (words (γ (quad 0 0 0 0)), 0xffffffff ∷ 0xffffffff ∷ 0xffffffff ∷ 0 ∷ [])
+    ∷ (words (θ S zeroKey (quad 1 0 0 0)), 1 ∷ 0x101 ∷ 0 ∷ 0x101 ∷ [])
+    ∷ []
+
+-- every case gives what it shall
+abbrev pub Hold : List (List ℕ × List ℕ) → Type 0
+Hold [] = Unit {0}
+Hold (c ∷ cs) = (c .0 ≡ c .1) × Hold cs

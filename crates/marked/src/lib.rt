@@ -1,0 +1,1 @@
+// The marked cases of 01, proved together. No code.
