@@ -1,0 +1,80 @@
+-- The ciphers by number: 01, 'What is built' and 'The two records'. The one place where a number means a cipher.
+use mathlib.Core.Path.{_≡_}
+use mathlib.Core.Bool.{Bool, true, false}
+use mathlib.Core.List.{List, [], _∷_}
+use Prim.Native.Nat.{ℕ, _+_, _*_}
+use lib.Dec.{eqb}
+use Rattle.laws.specs.Choice.{choose}
+use Rattle.hierocrypt3.specs.Tables as hierocrypt3-tables
+use Rattle.hierocrypt3.specs.Block as hierocrypt3-block
+use Rattle.hierocrypt3.specs.Keys as hierocrypt3-keys
+use Rattle.e2.specs.Steps as e2-steps
+use Rattle.e2.specs.Block as e2-block
+use Rattle.e2.specs.Keys as e2-keys
+use Rattle.noekeon.specs.Noekeon as noekeon-block
+
+pub record Cipher : Type 0 where
+  -- the legal key lengths, in bytes
+  pub lengths : List ℕ
+  -- how many bytes of round keys a key of that length makes
+  pub used : ℕ → ℕ
+  pub roundKeys : List ℕ → List ℕ
+  -- one block, by key length and round keys
+  pub encipher : ℕ → List ℕ → List ℕ → List ℕ
+  pub decipher : ℕ → List ℕ → List ℕ → List ℕ
+
+abbrev pub hierocrypt3 : Cipher
+hierocrypt3 = record {
+  lengths = 16 ∷ 24 ∷ 32 ∷ [];
+  used = λ len. (hierocrypt3-block.T len + 1) * 32;
+  roundKeys = hierocrypt3-keys.roundKeys;
+  encipher = hierocrypt3-block.encipher;
+  decipher = hierocrypt3-block.decipher;
+}
+
+abbrev pub e2 : Cipher
+e2 = record {
+  lengths = 16 ∷ 24 ∷ 32 ∷ [];
+  used = λ len. 256;
+  roundKeys = e2-keys.roundKeys;
+  encipher = λ len. e2-block.encipher;
+  decipher = λ len. e2-block.decipher;
+}
+
+abbrev pub noekeon : Cipher
+noekeon = record {
+  lengths = 16 ∷ [];
+  used = λ len. 16;
+  roundKeys = λ key. key;
+  encipher = λ len. noekeon-block.encipher;
+  decipher = λ len. noekeon-block.decipher;
+}
+
+-- no cipher has another number: no key length is legal for it
+abbrev pub none : Cipher
+none = record { lengths = []; used = λ len. 0; roundKeys = λ key. []; encipher = λ len keys block. block; decipher = λ len keys block. block }
+
+unfoldable pub number : ℕ → Cipher
+number n = choose (eqb n 1) hierocrypt3 (choose (eqb n 2) e2 (choose (eqb n 3) noekeon none))
+
+unfoldable pub isCipher : ℕ → Bool
+isCipher n = choose (eqb n 1) true (choose (eqb n 2) true (eqb n 3))
+
+abbrev pub member : ℕ → List ℕ → Bool
+member n [] = false
+member n (l ∷ ls) = choose (eqb n l) true (member n ls)
+
+-- whether a key of that length is legal for the cipher of that number
+unfoldable pub isLength : ℕ → ℕ → Bool
+isLength n len = member len (number n .lengths)
+
+-- a direction: 1 enciphers, 2 deciphers
+unfoldable pub isDirection : ℕ → Bool
+isDirection d = choose (eqb d 1) true (eqb d 2)
+
+-- ---- what the tables hold that code lends down: to encipher, and to decipher
+abbrev pub Forward : List ℕ → List ℕ → List ℕ → Type 0
+Forward sbox table e2-sbox = (sbox ≡ hierocrypt3-tables.sTable) × (table ≡ hierocrypt3-tables.tTable) × (e2-sbox ≡ e2-steps.sTable)
+
+abbrev pub Backward : List ℕ → List ℕ → List ℕ → Type 0
+Backward unsbox table e2-sbox = (unsbox ≡ hierocrypt3-tables.sTable⁻) × (table ≡ hierocrypt3-tables.uTable) × (e2-sbox ≡ e2-steps.sTable)

@@ -1,0 +1,46 @@
+// Parts of byte slices: a block read, a block written, a tail of zeros.
+ghost use mathlib.Core.Path.{_≡_};
+ghost use mathlib.Core.List.{_++_};
+ghost use Prim.Native.Nat.{_+_, _≤_};
+ghost use lib.ListN.{length, take, drop};
+ghost use Rattle.cipher.specs.Schedule.{zeros};
+
+// Is every byte from a place on zero?
+pub fn zero_from(bytes: &[u8], from: usize) -> bool
+    ensures { λ r. ⌜ r ≡ zeros (drop from (now (bytes .entry))) ⌝ }
+{
+    let mut i = from;
+    while i < bytes.len() {
+        if bytes[i] != 0 {
+            return false;
+        }
+        i += 1;
+    }
+    true
+}
+
+// The 16 bytes from a place on.
+pub fn block_at(bytes: &[u8], at: usize) -> [u8; 16]
+    requires { ⌜ at + 16 ≤ length (now bytes) ⌝ }
+    ensures { λ r. ⌜ r ≡ take 16 (drop at (now (bytes .entry))) ⌝ }
+{
+    let mut x = [0u8; 16];
+    let mut i = 0;
+    while i < 16 {
+        x[i] = bytes[at + i];
+        i += 1;
+    }
+    x
+}
+
+// 16 bytes put into the output at a place.
+pub fn store(out: &mut [u8], at: usize, block: [u8; 16])
+    requires { ⌜ at + 16 ≤ length (now out) ⌝ }
+    ensures { λ r. ⌜ now (out .exit) ≡ take at (now (out .entry)) ++ block ++ drop (at + 16) (now (out .entry)) ⌝ }
+{
+    let mut i = 0;
+    while i < 16 {
+        out[at + i] = block[i];
+        i += 1;
+    }
+}

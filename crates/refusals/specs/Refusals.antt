@@ -1,0 +1,63 @@
+-- The refusals: 01, 'Refusal numbers'. Their numbers, and the order of each call, in which the first that applies is given; 0 is done.
+use mathlib.Core.Bool.{Bool}
+use mathlib.Core.List.{List, [], _∷_}
+use Prim.Native.Nat.{ℕ}
+use Rattle.laws.specs.Choice.{choose}
+
+-- a cause: whether it applies, and its number
+abbrev pub first : List (Bool × ℕ) → ℕ
+first [] = 0
+first (c ∷ cs) = choose (c .0) (c .1) (first cs)
+
+-- ---- the table
+abbrev pub unknownCipher : ℕ
+unknownCipher = 1
+
+abbrev pub keyLength : ℕ
+keyLength = 2
+
+abbrev pub firstBlockLength : ℕ
+firstBlockLength = 3
+
+abbrev pub direction : ℕ
+direction = 4
+
+abbrev pub badSchedule : ℕ
+badSchedule = 5
+
+abbrev pub badState : ℕ
+badState = 6
+
+abbrev pub closed : ℕ
+closed = 7
+
+abbrev pub overLimit : ℕ
+overLimit = 8
+
+abbrev pub noRoom : ℕ
+noRoom = 9
+
+abbrev pub bytesHeld : ℕ
+bytesHeld = 10
+
+abbrev pub blockLength : ℕ
+blockLength = 11
+
+-- ---- the orders: each argument says whether its cause applies
+abbrev pub setUpOrder : (cipher length : Bool) → ℕ
+setUpOrder c l = first ((c, unknownCipher) ∷ (l, keyLength) ∷ [])
+
+abbrev pub blockOrder : (schedule block room : Bool) → ℕ
+blockOrder s b r = first ((s, badSchedule) ∷ (b, blockLength) ∷ (r, noRoom) ∷ [])
+
+abbrev pub startOrder : (schedule dir block : Bool) → ℕ
+startOrder s d b = first ((s, badSchedule) ∷ (d, direction) ∷ (b, firstBlockLength) ∷ [])
+
+abbrev pub pieceOrder : (state ended limit room : Bool) → ℕ
+pieceOrder s e l r = first ((s, badState) ∷ (e, closed) ∷ (l, overLimit) ∷ (r, noRoom) ∷ [])
+
+abbrev pub finishOrder : (state ended held : Bool) → ℕ
+finishOrder s e h = first ((s, badState) ∷ (e, closed) ∷ (h, bytesHeld) ∷ [])
+
+abbrev pub entryOrder : (cipher length dir block room : Bool) → ℕ
+entryOrder c l d b r = first ((c, unknownCipher) ∷ (l, keyLength) ∷ (d, direction) ∷ (b, blockLength) ∷ (r, noRoom) ∷ [])
