@@ -1,0 +1,5 @@
+pub mod Parts
+pub mod Loop
+pub mod Cut
+pub mod Undo
+pub mod Sized

@@ -1,0 +1,45 @@
+// When a state is bad, and when a piece is refused.
+use crate::Stream;
+ghost use mathlib.Core.Path.{_≡_};
+ghost use Rattle.stream.specs.State.{badState};
+ghost use Rattle.stream.specs.Calls.{pieceRefusal};
+
+// Is the state bad?
+pub fn bad_state(s: Stream) -> bool
+    ensures { λ r. ⌜ r ≡ badState s ⌝ }
+{
+    if cipher::bad_schedule(s.schedule) {
+        return true;
+    }
+    if !cipher::ciphers::is_direction(s.direction as u64) {
+        return true;
+    }
+    if Stream::LIMIT < s.count {
+        return true;
+    }
+    let n = (s.count % 16) as usize;
+    let held = s.held;
+    if !cipher::bytes::zero_from(&held, n) {
+        return true;
+    }
+    if s.closed { n != 0 } else { false }
+}
+
+// The refusal of a piece of n bytes with that room, or 0.
+pub fn piece_refusal(s: Stream, n: usize, room: usize) -> u8
+    ensures { λ r. ⌜ r ≡ pieceRefusal s n room ⌝ }
+{
+    if bad_state(s) {
+        return refusals::BAD_STATE;
+    }
+    if s.closed {
+        return refusals::CLOSED;
+    }
+    if Stream::LIMIT - s.count < n as u64 {
+        return refusals::OVER_LIMIT;
+    }
+    if room < ((s.count % 16) as usize + n) / 16 * 16 {
+        return refusals::NO_ROOM;
+    }
+    refusals::DONE
+}
