@@ -1,0 +1,3 @@
+pub mod Outcomes
+pub mod Demand2
+pub mod Unique

@@ -1,0 +1,152 @@
+/* Hierocrypt-3 in C as one would write it for speed: T-tables on words for S and mds_L, MDS_H on rows.
+   The yardstick of host/bench; nothing of the product uses it. */
+#include "speed.h"
+
+static uint8_t s[256], unsubstituted[256];
+static uint32_t forward[4][256], backward[4][256];
+
+static uint8_t product(uint8_t a, uint8_t b)
+{
+    uint8_t sum = 0;
+    for (; b; b >>= 1) {
+        if (b & 1)
+            sum ^= a;
+        a = (uint8_t)((a << 1) ^ (a & 0x80 ? 0x63 : 0));
+    }
+    return sum;
+}
+
+static uint8_t permuted(uint8_t x)
+{
+    static const int from[8] = { 3, 7, 5, 8, 6, 2, 4, 1 };
+    uint8_t y = 0;
+    for (int i = 0; i < 8; i++)
+        y = (uint8_t)(y << 1 | (x >> (8 - from[i]) & 1));
+    return y;
+}
+
+static uint32_t column(uint8_t x, const uint8_t *row, int place)
+{
+    uint32_t w = 0;
+    for (int i = 0; i < 4; i++)
+        w = w << 8 | product(row[(place - i + 4) & 3], x);
+    return w;
+}
+
+void hierocrypt3_tables(void)
+{
+    static const uint8_t row[4] = { 0xc4, 0x65, 0xc8, 0x8b }, inverse[4] = { 0x82, 0xc4, 0x34, 0xf6 };
+    for (int x = 0; x < 256; x++) {
+        uint8_t power = 1;
+        for (int i = 0; i < 247; i++)
+            power = product(power, permuted((uint8_t)x));
+        s[x] = power ^ 0x07;
+        unsubstituted[s[x]] = (uint8_t)x;
+    }
+    for (int x = 0; x < 256; x++)
+        for (int j = 0; j < 4; j++) {
+            forward[j][x] = column(s[x], row, j);
+            backward[j][x] = column((uint8_t)x, inverse, j);
+        }
+}
+
+static inline uint8_t at(uint32_t w, int i) { return (uint8_t)(w >> (24 - 8 * i)); }
+
+static inline void turned(uint32_t *y, const uint32_t *x)
+{
+    for (int i = 0; i < 4; i++)
+        y[i] = word_of(at(x[0], i), at(x[1], i), at(x[2], i), at(x[3], i));
+}
+
+static inline void substituted(uint32_t *rows, const uint8_t *table, const uint32_t *columns)
+{
+    for (int i = 0; i < 4; i++)
+        rows[i] = word_of(table[at(columns[0], i)], table[at(columns[1], i)], table[at(columns[2], i)], table[at(columns[3], i)]);
+}
+
+static inline void mixed(uint32_t *columns, uint32_t t[4][256], const uint32_t *rows)
+{
+    for (int i = 0; i < 4; i++)
+        columns[i] = t[0][at(rows[0], i)] ^ t[1][at(rows[1], i)] ^ t[2][at(rows[2], i)] ^ t[3][at(rows[3], i)];
+}
+
+static inline void mds_h(uint32_t *r)
+{
+    uint32_t p = r[0], q = r[1], u = r[2], v = r[3];
+    uint32_t a = p ^ left(p, 8), b = q ^ left(q, 8), c = u ^ left(u, 8), d = v ^ left(v, 8);
+    r[0] = a ^ c ^ left(p ^ q ^ v, 16) ^ left(p ^ q ^ u ^ v, 24);
+    r[1] = a ^ b ^ d ^ left(p ^ q ^ u, 16) ^ left(q ^ u ^ v, 24);
+    r[2] = a ^ b ^ c ^ left(p ^ q ^ u ^ v, 16) ^ left(u ^ v, 24);
+    r[3] = b ^ d ^ left(p ^ u, 16) ^ left(p ^ q ^ u, 24);
+}
+
+static inline void mds_h_inverse(uint32_t *r)
+{
+    uint32_t p = r[0], q = r[1], u = r[2], v = r[3];
+    uint32_t c0 = p ^ q ^ u ^ v, c1 = q ^ u ^ v, c2 = u ^ v, c3 = p ^ q ^ u;
+    r[0] = q ^ v ^ left(c0, 8) ^ left(c0, 16) ^ left(q ^ u, 24);
+    r[1] = p ^ u ^ left(c1, 8) ^ left(c1, 16) ^ left(p ^ u ^ v, 24);
+    r[2] = p ^ q ^ v ^ left(c2, 8) ^ left(c2, 16) ^ left(q ^ v, 24);
+    r[3] = p ^ u ^ v ^ left(c3, 8) ^ left(c3, 16) ^ left(p ^ q, 24);
+}
+
+static inline void add(uint32_t *x, const uint32_t *k)
+{
+    for (int i = 0; i < 4; i++)
+        x[i] ^= k[i];
+}
+
+/* The first half of each key as rows, the second as columns. */
+static void prepared(uint32_t k[9][8], const uint8_t *keys, int rounds)
+{
+    for (int t = 0; t <= rounds; t++) {
+        uint32_t columns[4];
+        load4(columns, keys + 32 * t);
+        turned(k[t], columns);
+        load4(k[t] + 4, keys + 32 * t + 16);
+    }
+}
+
+void hierocrypt3_encipher(const uint8_t *keys, int rounds, const uint8_t *in, uint8_t *out, size_t blocks)
+{
+    uint32_t k[9][8], columns[4], rows[4];
+    prepared(k, keys, rounds);
+    for (; blocks; blocks--, in += 16, out += 16) {
+        load4(columns, in);
+        turned(rows, columns);
+        for (int t = 0; t < rounds; t++) {
+            if (t)
+                mds_h(rows);
+            add(rows, k[t]);
+            mixed(columns, forward, rows);
+            add(columns, k[t] + 4);
+            substituted(rows, s, columns);
+        }
+        add(rows, k[rounds]);
+        turned(columns, rows);
+        store4(out, columns);
+    }
+}
+
+void hierocrypt3_decipher(const uint8_t *keys, int rounds, const uint8_t *in, uint8_t *out, size_t blocks)
+{
+    uint32_t k[9][8], columns[4], rows[4], rest[4];
+    prepared(k, keys, rounds);
+    for (; blocks; blocks--, in += 16, out += 16) {
+        load4(columns, in);
+        turned(rows, columns);
+        add(rows, k[rounds]);
+        for (int t = rounds; t-- > 0;) {
+            if (t < rounds - 1)
+                mds_h_inverse(rows);
+            substituted(columns, unsubstituted, rows);
+            add(columns, k[t] + 4);
+            turned(rest, columns);
+            mixed(columns, backward, rest);
+            substituted(rows, unsubstituted, columns);
+            add(rows, k[t]);
+        }
+        turned(columns, rows);
+        store4(out, columns);
+    }
+}

@@ -1,0 +1,74 @@
+/* Tlilcueyoh: one block of Hierocrypt-3, E2 or Noekeon, enciphered or deciphered.
+   Follows document 01, 'What is built' and 'Refusal numbers'. */
+#ifndef TLILCUEYOH_H
+#define TLILCUEYOH_H
+
+#include <stddef.h>
+#include <stdint.h>
+
+#ifdef __cplusplus
+extern "C" {
+#endif
+
+/* Every block has this many bytes. */
+#define TLILCUEYOH_BLOCK_BYTES 16
+
+/* Ciphers, with their legal key lengths in bytes. */
+#define TLILCUEYOH_HIEROCRYPT3 1 /* 16, 24 or 32 */
+#define TLILCUEYOH_E2          2 /* 16, 24 or 32 */
+#define TLILCUEYOH_NOEKEON     3 /* 16 */
+
+/* Directions. */
+#define TLILCUEYOH_ENCIPHER 1
+#define TLILCUEYOH_DECIPHER 2
+
+/* Answers: done, or the first refusal in this order whose cause applies.
+   The order is that of the tests and not that of the numbers. TLILCUEYOH_BLOCK_LENGTH
+   and TLILCUEYOH_KEY_LENGTH are refusals and not lengths. */
+#define TLILCUEYOH_DONE            0
+#define TLILCUEYOH_UNKNOWN_CIPHER  1 /* cipher isn't 1, 2 or 3 */
+#define TLILCUEYOH_KEY_LENGTH      2 /* key_len is illegal for the cipher */
+#define TLILCUEYOH_DIRECTION       4 /* direction isn't 1 or 2 */
+#define TLILCUEYOH_BLOCK_LENGTH   11 /* in_len isn't 16 */
+#define TLILCUEYOH_NO_ROOM         9 /* out_len is under 16 */
+
+/* Enciphers or deciphers the block `in` under `key`, and writes it to `out`.
+
+   cipher     TLILCUEYOH_HIEROCRYPT3, _E2 or _NOEKEON; all 64 bits count: 257 isn't 1
+   direction  TLILCUEYOH_ENCIPHER or _DECIPHER; all 64 bits count
+   key        key_len bytes, the key; only read
+   in         in_len bytes, the block; only read
+   out        out_len bytes of room
+
+   The caller sees to it that
+   - each pointer is good for its length: key and in for reading, out for writing.
+     A pointer with length 0 may be null; no other may;
+   - no byte of out's out_len bytes is also a byte of key or of in, even where the
+     call is going to be refused. A block can't be worked in place. key and in are
+     only read and may overlap each other;
+   - no one else writes key or in, or touches out, while the call runs.
+   Otherwise the behaviour is undefined.
+
+   Promised, for every input that meets this:
+   - the answer is TLILCUEYOH_DONE if no refusal's cause applies, and else the first
+     refusal whose cause does;
+   - done: the first 16 bytes of out are the block enciphered or deciphered, and the
+     rest of out is left as it was;
+   - refused: no byte is written;
+   - of the caller's memory, nothing outside the three buffers is read or written;
+   - deciphering what was enciphered with the same cipher and key gives the block back;
+   - the answer and the bytes depend on the arguments alone. There is no state between
+     calls, so calls may run at the same time in any number of threads.
+
+   Not promised: that the time taken tells nothing of key or block, or that traces of
+   the key are wiped from the stack. */
+uint64_t tlilcueyoh_block(uint64_t cipher, uint64_t direction,
+                          const uint8_t *key, size_t key_len,
+                          const uint8_t *in, size_t in_len,
+                          uint8_t *out, size_t out_len);
+
+#ifdef __cplusplus
+}
+#endif
+
+#endif
