@@ -1,5 +1,6 @@
 /* One line for each work, NAME NS RATIO: nanoseconds a block, and the ratio to C at -O3
-   in the same run; a line of cbc has the ratio to the cipher's own blocks. */
+   in the same run. A line of cbc has the ratio to the cipher's own blocks; so has a line of
+   piece, whose pieces are one byte each and whose time is that of a piece beyond the blocks. */
 #include <stdio.h>
 #include <stdlib.h>
 #include <string.h>
@@ -13,6 +14,9 @@ uint64_t tlilcueyoh_speed_blocks(uint64_t cipher, uint64_t direction, const uint
 uint64_t tlilcueyoh_speed_cbc(uint64_t cipher, uint64_t direction, const uint8_t *key, size_t key_len,
                               const uint8_t *first, size_t first_len, const uint8_t *in, size_t in_len,
                               uint8_t *out, size_t out_len);
+uint64_t tlilcueyoh_speed_bytes(uint64_t cipher, uint64_t direction, const uint8_t *key, size_t key_len,
+                                const uint8_t *first, size_t first_len, const uint8_t *in, size_t in_len,
+                                uint8_t *out, size_t out_len);
 
 enum { BLOCKS = 4096, BYTES = 16 * BLOCKS, REPEATS = 200, ENCIPHER = 1, DECIPHER = 2 };
 enum { HIEROCRYPT3 = 1, E2 = 2, NOEKEON = 3 };
@@ -46,6 +50,11 @@ static void cbc(int cipher, int direction)
     done(tlilcueyoh_speed_cbc(cipher, direction, key, 16, first, 16, in, BYTES, out, BYTES));
 }
 
+static void pieces(int cipher, int direction)
+{
+    done(tlilcueyoh_speed_bytes(cipher, direction, key, 16, first, 16, in, BYTES, out, BYTES));
+}
+
 /* For the time alone: the yardsticks take any round keys, and libtomcrypt's Noekeon has
    round constants and full rotations, which 003's lacks. */
 static void yardstick(int cipher, int direction)
@@ -71,14 +80,17 @@ static void shortest(double *best, void (*work)(int, int), int cipher, int direc
 static void measure(int cipher, int direction)
 {
     const char *way = direction == ENCIPHER ? "encipher" : "decipher";
-    double ours = 1e12, chained = 1e12, c = 1e12;
+    double ours = 1e12, chained = 1e12, cut = 1e12, c = 1e12;
     for (int i = 0; i < REPEATS; i++) {
         shortest(&ours, blocks, cipher, direction);
         shortest(&c, yardstick, cipher, direction);
         shortest(&chained, cbc, cipher, direction);
+        if (i % 10 == 0)
+            shortest(&cut, pieces, cipher, direction);
     }
     printf("%s-%s %.1f %.2f\n", names[cipher], way, ours, ours / c);
     printf("cbc-%s-%s %.1f %.2f\n", names[cipher], way, chained, chained / ours);
+    printf("piece-%s-%s %.1f %.2f\n", names[cipher], way, (cut - ours) / 16, cut / ours);
 }
 
 int main(void)

@@ -139,3 +139,28 @@ pub extern "C" fn tlilcueyoh_speed_cbc(
     let fed = stream.feed(input, output);
     fed.answer as u64
 }
+
+// The input in pieces of one byte, all to the front of the output.
+#[no_mangle]
+pub extern "C" fn tlilcueyoh_speed_bytes(
+    cipher: u64,
+    direction: u64,
+    key: &[u8],
+    first: &[u8],
+    input: &[u8],
+    output: &mut [u8],
+) -> u64 {
+    let made = cipher::set_up(cipher, key);
+    let begun = Stream::start(made.schedule, direction, first);
+    let mut stream = begun.stream;
+    let mut refused: u64 = 0;
+    let mut i: usize = 0;
+    while i < input.len() {
+        let end = i + 1;
+        let fed = stream.feed(&input[i..end], output);
+        refused = refused | fed.answer as u64;
+        stream = fed.next;
+        i = end;
+    }
+    refused
+}
