@@ -7,9 +7,9 @@ use native.Mathlib.Omega.{arith}
 use lib.ListN.{length, getD, set, drop, List·getD-eq-default}
 use Rattle.laws.specs.Places.{tab, part, quarters}
 use Rattle.laws.proofs.Places.{getD-tab, length-tab, Filled, fill-start, fill-step, fill-end}
+use Rattle.laws.proofs.Parts.{left-half, right-half, part-before, part-behind}
 use Rattle.e2.specs.Steps.{S}
 use Rattle.e2.specs.Keys.{KeyLength, g, fullKey, Y, L, G, generation, q, subkey, roundKeys}
-use Rattle.e2.proofs.Parts.{left-half, right-half, part-before, part-behind}
 use Rattle.e2.proofs.StayBytes.{S-bytes}
 
 -- ---- K0 .. K3

@@ -1,8 +1,3 @@
-pub mod Parts
-pub mod XorWords
-pub mod OnWords
-pub mod Permuted
-pub mod KeyedRounds
 pub mod TableRule
 pub mod StepsOfP
 pub mod StayBytes

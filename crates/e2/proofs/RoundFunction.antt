@@ -6,8 +6,8 @@ use native.Mathlib.Nat.{add-zero}
 use native.Mathlib.Omega.{arith}
 use Rattle.laws.specs.Places.{part}
 use Rattle.laws.specs.Bytes.{xorL}
+use Rattle.laws.proofs.Parts.{part-part}
 use Rattle.e2.specs.Steps.{BRL, S, P, F}
-use Rattle.e2.proofs.Parts.{part-part}
 
 pub F-at : (n : ℕ) (x xs : List ℕ) → F x (part 0 n 16 xs) ≡ BRL (S (xorL 8 (P (S (xorL 8 x (part 0 n 8 xs)))) (part 0 (n + 8) 8 xs)))
 unfolding F

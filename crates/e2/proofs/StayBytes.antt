@@ -13,8 +13,8 @@ use Rattle.laws.specs.Field.{power}
 use Rattle.laws.proofs.Places.{each-tab}
 use Rattle.laws.proofs.Words.{byte-at}
 use Rattle.laws.proofs.Matrix.{matrix-words, pick-adds, pick-lt}
+use Rattle.laws.proofs.Permuted.{permute-bytes}
 use Rattle.e2.specs.Steps.{s, S, rowsP, P, fromBRL, BRL, F}
-use Rattle.e2.proofs.Permuted.{permute-bytes}
 
 s-byte : (x : ℕ) → Byte (s x)
 unfolding s

@@ -13,11 +13,11 @@ use Rattle.laws.proofs.XorLists.{xorL-bytes, xorL-cancel-r}
 use Rattle.laws.proofs.OddInverse.{or-one-odd, odd-product}
 use Rattle.laws.proofs.Feistel.{feistel-keeps, feistel-undo}
 use Rattle.laws.proofs.Inverse.{flip, and-then, at-each, xored-list}
+use Rattle.laws.proofs.Parts.{left-half, right-half, joined-halves}
+use Rattle.laws.proofs.OnWords.{on-words}
+use Rattle.laws.proofs.Permuted.{permuted}
 use Rattle.e2.specs.Steps.{inverse, timesWords, overWords, times, over, fromBP, fromBP⁻, BP, BP⁻, F}
 use Rattle.e2.specs.Block.{first, rounds, last, cipher, reordered, roundKey, encipher, decipher}
-use Rattle.e2.proofs.Parts.{left-half, right-half, joined-halves}
-use Rattle.e2.proofs.OnWords.{on-words}
-use Rattle.e2.proofs.Permuted.{permuted}
 use Rattle.e2.proofs.StayBytes.{F-bytes, part-bytes}
 
 -- ---- ⊗ and ⊘ by any Y, on words and on bytes

@@ -1,12 +1,13 @@
 -- Four words of four bytes each, each turned one byte further to the right and xored: the product with a circulant matrix, read off words of its first column.
-use mathlib.Core.Path.{_≡_, sym, ap, ap₂, _∙_}
+use mathlib.Core.Path.{_≡_, ap, _∙_}
 use mathlib.Core.List.{[], _∷_}
-use Prim.Native.Nat.{ℕ, _+_, _*_, _^_}
+use Prim.Native.Nat.{ℕ}
 use native.Mathlib.Omega.{arith}
-use lib.Bits.{bitXor, xor-lt, xor-block}
+use lib.Bits.{bitXor, xor-lt}
 use Rattle.laws.specs.Bytes.{Byte, word, bytesOf}
 use Rattle.laws.specs.Turn.{rol}
-use Rattle.laws.proofs.BigEndian.{word-byte0, word-byte1, word-byte2, word-byte3}
+use Rattle.hierocrypt3.specs.Columns.{turnedSum}
+use Rattle.laws.proofs.BigEndian.{word-xor, word-byte0, word-byte1, word-byte2, word-byte3}
 
 -- ---- a word turned
 module _ (a b c d : ℕ) (ha : Byte a) (hb : Byte b) (hc : Byte c) (hd : Byte d) where
@@ -19,26 +20,10 @@ module _ (a b c d : ℕ) (ha : Byte a) (hb : Byte b) (hc : Byte c) (hd : Byte d)
   rol8-word : rol 32 8 (word a b c d) ≡ word b c d a
   rol8-word = omega arith
 
--- ---- two words xored
-horner : (a b c d : ℕ) → word a b c d ≡ ((a * 2 ^ 8 + b) * 2 ^ 8 + c) * 2 ^ 8 + d
-horner a b c d = omega arith
-
-xor-word : (a b c d e f g h : ℕ) → Byte b → Byte c → Byte d → Byte f → Byte g → Byte h
-    → bitXor (word a b c d) (word e f g h) ≡ word (bitXor a e) (bitXor b f) (bitXor c g) (bitXor d h)
-xor-word a b c d e f g h hb hc hd hf hg hh =
-    ap₂ bitXor (horner a b c d) (horner e f g h)
-    ∙ xor-block 8 ((a * 2 ^ 8 + b) * 2 ^ 8 + c) ((e * 2 ^ 8 + f) * 2 ^ 8 + g) d h hd hh
-    ∙ ap (λ (n : ℕ). n * 2 ^ 8 + bitXor d h) (xor-block 8 (a * 2 ^ 8 + b) (e * 2 ^ 8 + f) c g hc hg)
-    ∙ ap (λ (n : ℕ). (n * 2 ^ 8 + bitXor c g) * 2 ^ 8 + bitXor d h) (xor-block 8 a e b f hb hf)
-    ∙ sym (horner (bitXor a e) (bitXor b f) (bitXor c g) (bitXor d h))
-
 -- ---- the sum: f, g, h, k are the products with the first column's coefficients
 module _ (f g h k : ℕ → ℕ) (hf : (x : ℕ) → Byte (f x)) (hg : (x : ℕ) → Byte (g x)) (hh : (x : ℕ) → Byte (h x)) (hk : (x : ℕ) → Byte (k x)) where
   abbrev pub column : ℕ → ℕ
   column x = word (f x) (g x) (h x) (k x)
-
-  abbrev pub turnedSum : ℕ → ℕ → ℕ → ℕ → ℕ
-  turnedSum x y z w = bitXor (bitXor (bitXor (column x) (rol 32 24 (column y))) (rol 32 16 (column z))) (rol 32 8 (column w))
 
   abbrev sum : (p q r s : ℕ) → ℕ
   sum p q r s = bitXor (bitXor (bitXor p q) r) s
@@ -46,24 +31,24 @@ module _ (f g h k : ℕ → ℕ) (hf : (x : ℕ) → Byte (f x)) (hg : (x : ℕ)
   sum-lt : (p q r s : ℕ) → Byte p → Byte q → Byte r → Byte s → Byte (sum p q r s)
   sum-lt p q r s hp hq hr hs = xor-lt 8 (bitXor (bitXor p q) r) s (xor-lt 8 (bitXor p q) r (xor-lt 8 p q hp hq) hr) hs
 
-  turned-word : (x y z w : ℕ) → turnedSum x y z w
+  turned-word : (x y z w : ℕ) → turnedSum (column x) (column y) (column z) (column w)
       ≡ word (sum (f x) (k y) (h z) (g w)) (sum (g x) (f y) (k z) (h w)) (sum (h x) (g y) (f z) (k w)) (sum (k x) (h y) (g z) (f w))
   turned-word x y z w =
       (λ i. bitXor (bitXor (bitXor (column x) (rol24-word (f y) (g y) (h y) (k y) (hf y) (hg y) (hh y) (hk y) i))
       (rol16-word (f z) (g z) (h z) (k z) (hf z) (hg z) (hh z) (hk z) i))
       (rol8-word (f w) (g w) (h w) (k w) (hf w) (hg w) (hh w) (hk w) i))
       ∙ ap (λ (n : ℕ). bitXor (bitXor n (word (h z) (k z) (f z) (g z))) (word (g w) (h w) (k w) (f w)))
-      (xor-word (f x) (g x) (h x) (k x) (k y) (f y) (g y) (h y) (hg x) (hh x) (hk x) (hf y) (hg y) (hh y))
+      (word-xor (f x) (g x) (h x) (k x) (k y) (f y) (g y) (h y) (hg x) (hh x) (hk x) (hf y) (hg y) (hh y))
       ∙ ap (λ (n : ℕ). bitXor n (word (g w) (h w) (k w) (f w)))
-      (xor-word (bitXor (f x) (k y)) (bitXor (g x) (f y)) (bitXor (h x) (g y)) (bitXor (k x) (h y)) (h z) (k z) (f z) (g z)
+      (word-xor (bitXor (f x) (k y)) (bitXor (g x) (f y)) (bitXor (h x) (g y)) (bitXor (k x) (h y)) (h z) (k z) (f z) (g z)
       (xor-lt 8 (g x) (f y) (hg x) (hf y)) (xor-lt 8 (h x) (g y) (hh x) (hg y)) (xor-lt 8 (k x) (h y) (hk x) (hh y)) (hk z) (hf z) (hg z))
-      ∙ xor-word (bitXor (bitXor (f x) (k y)) (h z)) (bitXor (bitXor (g x) (f y)) (k z)) (bitXor (bitXor (h x) (g y)) (f z)) (bitXor (bitXor (k x) (h y)) (g z))
+      ∙ word-xor (bitXor (bitXor (f x) (k y)) (h z)) (bitXor (bitXor (g x) (f y)) (k z)) (bitXor (bitXor (h x) (g y)) (f z)) (bitXor (bitXor (k x) (h y)) (g z))
       (g w) (h w) (k w) (f w)
       (xor-lt 8 (bitXor (g x) (f y)) (k z) (xor-lt 8 (g x) (f y) (hg x) (hf y)) (hk z))
       (xor-lt 8 (bitXor (h x) (g y)) (f z) (xor-lt 8 (h x) (g y) (hh x) (hg y)) (hf z))
       (xor-lt 8 (bitXor (k x) (h y)) (g z) (xor-lt 8 (k x) (h y) (hk x) (hh y)) (hg z)) (hh w) (hk w) (hf w)
 
-  pub turned-bytes : (x y z w : ℕ) → bytesOf (turnedSum x y z w ∷ [])
+  pub turned-bytes : (x y z w : ℕ) → bytesOf (turnedSum (column x) (column y) (column z) (column w) ∷ [])
       ≡ sum (f x) (k y) (h z) (g w) ∷ sum (g x) (f y) (k z) (h w) ∷ sum (h x) (g y) (f z) (k w) ∷ sum (k x) (h y) (g z) (f w) ∷ []
   turned-bytes x y z w =
       let p = sum (f x) (k y) (h z) (g w) in

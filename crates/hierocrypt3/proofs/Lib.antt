@@ -1,13 +1,10 @@
-pub mod Default
-pub mod Through
-pub mod Alike
-pub mod Computed
 pub mod Circulant
 pub mod Logs
 pub mod Sbox
 pub mod Entries
 pub mod MdsL
 pub mod MdsH
+pub mod RowsH
 pub mod Steps
 pub mod Numbered
 pub mod Undone

@@ -1,5 +1,4 @@
--- MDS_H and its inverse (002, section 3.2) undo one another, and are what the code does with one row of matrices. Each is written over any sum, so that the equations
--- are solved over unknowns.
+-- MDS_H and its inverse (002, section 3.2) undo one another. Each is written over any sum, so that the equations are solved over unknowns.
 use mathlib.Core.Path.{_≡_, refl, sym, ap, _∙_}
 use mathlib.Core.List.{List, [], _∷_}
 use Prim.Native.Nat.{ℕ, _+_, _*_, _/_, _%_}
@@ -10,15 +9,13 @@ use Rattle.laws.specs.Places.{tab, Each}
 use Rattle.laws.specs.Bytes.{Byte, Bytes}
 use Rattle.laws.specs.Matrix.{total, pick, bitMatrix}
 use Rattle.laws.specs.Inverse.{Inverse}
-use Rattle.laws.proofs.Places.{tab-is, tab-self, each-tab}
+use Rattle.laws.proofs.Places.{tab-is, tab-self, each-tab, each-default}
 use Rattle.laws.proofs.XorLists.{xorL-bytes}
 use Rattle.laws.proofs.Rounds.{steps-keep}
 use Rattle.laws.proofs.Matrix.{pick-lt, total-lt}
 use Rattle.laws.proofs.Sums.{Sum, solve-lists}
 use Rattle.laws.proofs.Sums.Sum.{at, zer, _⊕_}
 use Rattle.hierocrypt3.specs.Operations.{rowsH, rowsH⁻, addColumns, onColumns, MDSH, MDSH⁻}
-use Rattle.hierocrypt3.specs.Columns.{rowH, rowH⁻, turnedColumns}
-use Rattle.hierocrypt3.proofs.Default.{each-default}
 
 abbrev pub Block : List (List ℕ) → Type 0
 Block = Each (Bytes 4) [] 4
@@ -34,47 +31,13 @@ pub block-columns : (x : List (List ℕ)) → Block x → x ≡ columns (entry x
 block-columns x w =
     tab-is 4 (λ i. tab 4 (λ k. getD (getD x i []) k 0)) [] x (w .long) (λ i h. tab-self 4 0 (getD x i []) (w .each i h .long))
 
-vars : List (List Sum)
+unfoldable pub vars : List (List Sum)
 vars = columns at
 
 -- two functions of a block that agree on sixteen unknowns agree
 module _ (F G : List (List ℕ) → List (List ℕ)) (agree : (f : ℕ → ℕ) → F (columns f) ≡ G (columns f)) where
-  on-blocks : (x : List (List ℕ)) → Block x → F x ≡ G x
+  pub on-blocks : (x : List (List ℕ)) → Block x → F x ≡ G x
   on-blocks x w = ap F (block-columns x w) ∙ agree (entry x) ∙ sym (ap G (block-columns x w))
-
--- ---- as the code does it: four columns, each by one row of matrices
-turned : (x : List (List ℕ)) → Block x → turnedColumns bitXor 0 (rowH bitXor 0) x ≡ MDSH x
-unfolding MDSH vars
-turned =
-    on-blocks (turnedColumns bitXor 0 (rowH bitXor 0)) MDSH
-    (λ f. solve-lists (λ x. x) (λ x y. refl) (tab 16 f) (turnedColumns _⊕_ zer (rowH _⊕_ zer) vars) (onColumns _⊕_ zer rowsH vars) tt)
-
-turned⁻ : (x : List (List ℕ)) → Block x → turnedColumns bitXor 0 (rowH⁻ bitXor 0) x ≡ MDSH⁻ x
-unfolding MDSH⁻ vars
-turned⁻ =
-    on-blocks (turnedColumns bitXor 0 (rowH⁻ bitXor 0)) MDSH⁻
-    (λ f. solve-lists (λ x. x) (λ x y. refl) (tab 16 f) (turnedColumns _⊕_ zer (rowH⁻ _⊕_ zer) vars) (onColumns _⊕_ zer rowsH⁻ vars) tt)
-
-module _ (x : List (List ℕ)) (w : Block x) where
-  abbrev x0 : List ℕ
-  x0 = getD x 0 []
-
-  abbrev x1 : List ℕ
-  x1 = getD x 1 []
-
-  abbrev x2 : List ℕ
-  x2 = getD x 2 []
-
-  abbrev x3 : List ℕ
-  x3 = getD x 3 []
-
-  pub mdsH-columns : {y0 y1 y2 y3 : List ℕ} → y0 ≡ rowH bitXor 0 x0 x1 x2 x3 → y1 ≡ rowH bitXor 0 x1 x2 x3 x0
-      → y2 ≡ rowH bitXor 0 x2 x3 x0 x1 → y3 ≡ rowH bitXor 0 x3 x0 x1 x2 → y0 ∷ y1 ∷ y2 ∷ y3 ∷ [] ≡ MDSH x
-  mdsH-columns e0 e1 e2 e3 = (λ i. e0 i ∷ e1 i ∷ e2 i ∷ e3 i ∷ []) ∙ turned x w
-
-  pub mdsH⁻-columns : {y0 y1 y2 y3 : List ℕ} → y0 ≡ rowH⁻ bitXor 0 x0 x1 x2 x3 → y1 ≡ rowH⁻ bitXor 0 x1 x2 x3 x0
-      → y2 ≡ rowH⁻ bitXor 0 x2 x3 x0 x1 → y3 ≡ rowH⁻ bitXor 0 x3 x0 x1 x2 → y0 ∷ y1 ∷ y2 ∷ y3 ∷ [] ≡ MDSH⁻ x
-  mdsH⁻-columns e0 e1 e2 e3 = (λ i. e0 i ∷ e1 i ∷ e2 i ∷ e3 i ∷ []) ∙ turned⁻ x w
 
 -- ---- there and back
 undo : (x : List (List ℕ)) → Block x → MDSH⁻ (MDSH x) ≡ x

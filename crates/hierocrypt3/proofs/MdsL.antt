@@ -3,21 +3,16 @@ use mathlib.Core.Path.{_≡_, refl}
 use mathlib.Core.List.{List, [], _∷_}
 use Prim.Native.Nat.{ℕ}
 use lib.Dec.{lit<}
-use lib.Bits.{bitXor}
 use lib.ListN.{getD}
 use Rattle.laws.specs.Bytes.{Bytes, bytesOf}
-use Rattle.laws.specs.Turn.{rol}
 use Rattle.laws.specs.Field.{product}
 use Rattle.laws.specs.Inverse.{Inverse}
 use Rattle.laws.proofs.Field.{product-lt, product-xor-r}
 use Rattle.laws.proofs.Matrix.{matrix-inverse}
 use Rattle.hierocrypt3.specs.Operations.{p, s, rowsL, rowsL⁻, mdsL, mdsL⁻}
 use Rattle.hierocrypt3.specs.Tables.{t, u}
-use Rattle.hierocrypt3.specs.Columns.{sColumn}
+use Rattle.hierocrypt3.specs.Columns.{sColumn, turnedSum}
 use Rattle.hierocrypt3.proofs.Circulant.{turned-bytes}
-
-abbrev turnedSum : ℕ → ℕ → ℕ → ℕ → ℕ
-turnedSum x y z w = bitXor (bitXor (bitXor x (rol 32 24 y)) (rol 32 16 z)) (rol 32 8 w)
 
 pub mdsL-turned : (x : List ℕ) → bytesOf (turnedSum (t (getD x 0 0)) (t (getD x 1 0)) (t (getD x 2 0)) (t (getD x 3 0)) ∷ []) ≡ mdsL (sColumn x)
 unfolding t mdsL

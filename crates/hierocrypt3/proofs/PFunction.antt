@@ -11,14 +11,13 @@ use Rattle.laws.specs.Places.{tab, part, quarters, joined, Each}
 use Rattle.laws.specs.Bytes.{Byte, Bytes, xorL}
 use Rattle.laws.specs.Matrix.{total, pick, bitMatrix}
 use Rattle.laws.specs.Inverse.{Inverse}
-use Rattle.laws.proofs.Places.{tab-self, each-tab}
+use Rattle.laws.proofs.Places.{tab-self, each-tab, each-default}
 use Rattle.laws.proofs.Words.{byte-at}
 use Rattle.laws.proofs.XorLists.{xorL-bytes}
 use Rattle.laws.proofs.Rounds.{steps-keep}
 use Rattle.laws.proofs.Sums.{Sum, solve-list}
 use Rattle.laws.proofs.Sums.Sum.{at, zer, _⊕_}
 use Rattle.hierocrypt3.specs.Operations.{rowsP, rowsP⁻, P, P⁻, addColumns}
-use Rattle.hierocrypt3.proofs.Default.{each-default}
 
 abbrev plus : ℕ → List Sum → List Sum → List Sum
 plus m x y = tab m (λ j. getD x j zer ⊕ getD y j zer)

@@ -12,10 +12,10 @@ use Rattle.laws.proofs.Test.{both, both-left, both-right}
 use Rattle.laws.proofs.Xor.{xor-cancel-r}
 use Rattle.laws.proofs.Places.{tab-is, getD-tab}
 use Rattle.laws.proofs.Table.{table-at}
+use Rattle.laws.proofs.Inverse.{alike}
 use Rattle.hierocrypt3.specs.Operations.{s, s⁻, permuteBits, permuteBits⁻}
 use Rattle.hierocrypt3.specs.Tables.{sTable, sTable⁻}
 use Rattle.hierocrypt3.proofs.Logs.{powers, powerTest, power-by}
-use Rattle.hierocrypt3.proofs.Alike.{alike}
 
 -- ---- the tables, with the code's entries
 unfoldable pub entries : List ℕ

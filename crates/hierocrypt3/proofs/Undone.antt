@@ -10,13 +10,12 @@ use Rattle.laws.specs.Bytes.{Byte, Bytes}
 use Rattle.laws.specs.Inverse.{Inverse}
 use Rattle.laws.proofs.Places.{tab-self, each-tab}
 use Rattle.laws.proofs.Words.{byte-at}
-use Rattle.laws.proofs.Inverse.{and-then, rounds, at-each, xored}
+use Rattle.laws.proofs.Inverse.{and-then, rounds, at-each, xored, through}
 use Rattle.hierocrypt3.specs.Operations.{s, s⁻, S, S⁻, mdsL, mdsL⁻, MDSL, MDSL⁻}
 use Rattle.hierocrypt3.specs.Block.{T, addKey, firstHalf, secondHalf, roundKey, XS, XS⁻, ρ, ρ⁻, encryption, decryption, encipher, decipher}
 use Rattle.hierocrypt3.proofs.Sbox.{s-inverse}
 use Rattle.hierocrypt3.proofs.MdsL.{mdsL-inverse}
 use Rattle.hierocrypt3.proofs.MdsH.{Block, block-columns, entry, mdsH-inverse}
-use Rattle.hierocrypt3.proofs.Through.{through}
 
 -- ---- the steps
 pub S-inverse : Inverse Block S S⁻

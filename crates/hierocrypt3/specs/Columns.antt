@@ -6,8 +6,10 @@ use lib.Dec.{ltb}
 use lib.ListN.{getD}
 use Rattle.laws.specs.Choice.{choose}
 use Rattle.laws.specs.Places.{tab, layer}
-use Rattle.laws.specs.Matrix.{bitMatrix}
-use Rattle.hierocrypt3.specs.Operations.{s, s⁻, mdsL, mdsL⁻, a, b, c, d, e, addColumns, MDSH⁻}
+use Rattle.laws.specs.Bytes.{word}
+use Rattle.laws.specs.Turn.{rol}
+use Rattle.laws.specs.Matrix.{total, pick}
+use Rattle.hierocrypt3.specs.Operations.{s, s⁻, mdsL, mdsL⁻, MDSH⁻}
 use Rattle.hierocrypt3.specs.Block.{XS, XS⁻, ρ, roundKey}
 
 -- ---- XS on one column
@@ -27,29 +29,17 @@ xsColumn keys at x = sColumn (keyColumn keys (at + 16) (mdsL (sColumn (keyColumn
 unfoldable pub xsColumn⁻ : List ℕ → ℕ → List ℕ → List ℕ
 xsColumn⁻ keys at x = keyColumn keys at (sColumn⁻ (mdsL⁻ (keyColumn keys (at + 16) (sColumn⁻ x))))
 
--- ---- MDS_H: one row of matrices serves all four columns, turned. Over any values that can be added
-module _ {A : Type 0} (add : A → A → A) (none : A) where
-  abbrev times : List (List ℕ) → List A → List A
-  times m x = bitMatrix add none 4 m x
+-- ---- four words, each turned one byte further to the right than the one before
+abbrev pub turnedSum : ℕ → ℕ → ℕ → ℕ → ℕ
+turnedSum x y z w = bitXor (bitXor (bitXor x (rol 32 24 y)) (rol 32 16 z)) (rol 32 8 w)
 
-  abbrev plus : List A → List A → List A
-  plus x y = addColumns add none x y
+-- ---- MDS_H a row at a time: byte k of each column makes row k
+abbrev pub rowWords : List (List ℕ) → List ℕ
+rowWords x = tab 4 (λ k. word (getD (getD x 0 []) k 0) (getD (getD x 1 []) k 0) (getD (getD x 2 []) k 0) (getD (getD x 3 []) k 0))
 
-  -- a x + a y + b z + c w
-  abbrev pub rowH : List A → List A → List A → List A → List A
-  rowH x y z w = plus (times a (plus x y)) (plus (times b z) (times c w))
-
-  -- d x + c y + c z + e w
-  abbrev pub rowH⁻ : List A → List A → List A → List A → List A
-  rowH⁻ x y z w = plus (times d x) (plus (times c (plus y z)) (times e w))
-
-  abbrev pub turnedColumns : (List A → List A → List A → List A → List A) → List (List A) → List (List A)
-  turnedColumns row x =
-      let x0 = getD x 0 [] in
-      let x1 = getD x 1 [] in
-      let x2 = getD x 2 [] in
-      let x3 = getD x 3 [] in
-      row x0 x1 x2 x3 ∷ row x1 x2 x3 x0 ∷ row x2 x3 x0 x1 ∷ row x3 x0 x1 x2 ∷ []
+-- a row of bits times four values
+abbrev pub bitRow : List ℕ → List ℕ → ℕ
+bitRow m x = total bitXor 0 4 (λ j. pick bitXor 0 (getD m j 0) (getD x j 0))
 
 -- ---- round i + 1 of n + 1: the last has no MDS_H
 abbrev pub roundAt : List ℕ → ℕ → ℕ → List (List ℕ) → List (List ℕ)

@@ -8,14 +8,14 @@ ghost use lib.Bits.{bitXor};
 ghost use lib.Dec.{ltb};
 ghost use lib.ListN.{getD};
 ghost use Rattle.laws.specs.Choice.{choose};
-ghost use Rattle.laws.specs.Places.{part, quarters, joined};
-ghost use Rattle.laws.specs.Bytes.{bytesOf};
+ghost use Rattle.laws.specs.Places.{tab, part, quarters, joined};
+ghost use Rattle.laws.specs.Bytes.{word, bytesOf};
 ghost use Rattle.laws.specs.Turn.{rol};
-ghost use Rattle.laws.specs.Matrix.{total, pick, bitMatrix};
-ghost use Rattle.hierocrypt3.specs.Operations.{mdsL, mdsL⁻, addColumns, MDSH, MDSH⁻};
+ghost use Rattle.laws.specs.Matrix.{pick};
+ghost use Rattle.hierocrypt3.specs.Operations.{mdsL, mdsL⁻, MDSH, MDSH⁻};
 ghost use Rattle.hierocrypt3.specs.Tables.{sTable, sTable⁻, tTable, uTable};
 ghost use Rattle.hierocrypt3.specs.Block.{KeyLength, addKey, firstHalf, XS, XS⁻, roundKey, encryption, decryption, encipher, decipher};
-ghost use Rattle.hierocrypt3.specs.Columns.{sColumn, sColumn⁻, keyColumn, xsColumn, xsColumn⁻, rowH, rowH⁻, roundAt, roundAt⁻};
+ghost use Rattle.hierocrypt3.specs.Columns.{sColumn, sColumn⁻, keyColumn, xsColumn, xsColumn⁻, turnedSum, bitRow, rowWords, roundAt, roundAt⁻};
 
 // A word turned n places to the left.
 fn turned(x: u32, n: u32) -> u32
@@ -39,7 +39,7 @@ fn bytes_of(w: u32) -> [u8; 4]
 
 // The sum of four words, each turned one byte further to the right than the one before.
 fn turned_sum(x: u32, y: u32, z: u32, w: u32) -> [u8; 4]
-    ensures { λ r. ⌜ r ≡ bytesOf (bitXor (bitXor (bitXor x (rol 32 24 y)) (rol 32 16 z)) (rol 32 8 w) ∷ []) ⌝ }
+    ensures { λ r. ⌜ r ≡ bytesOf (turnedSum x y z w ∷ []) ⌝ }
 {
     bytes_of(x ^ turned(y, 24) ^ turned(z, 16) ^ turned(w, 8))
 }
@@ -222,7 +222,7 @@ pub const D: [[u8; 4]; 4] = [[0, 1, 0, 1], [1, 0, 1, 0], [1, 1, 0, 1], [1, 0, 1,
 const E: [[u8; 4]; 4] = [[0, 1, 1, 0], [1, 0, 1, 1], [0, 1, 0, 1], [1, 1, 0, 0]];
 
 // x, if the bit is set.
-fn picked(bit: u8, x: u8) -> u8
+fn picked(bit: u8, x: u32) -> u32
     ensures { λ r. ⌜ r ≡ pick bitXor 0 bit x ⌝ }
 {
     if bit == 0 {
@@ -231,82 +231,91 @@ fn picked(bit: u8, x: u8) -> u8
     x
 }
 
-// A row of bits times a column.
-fn bit_row(m: [u8; 4], x: [u8; 4]) -> u8
-    ensures { λ r. ⌜ r ≡ total bitXor 0 4 (λ j. pick bitXor 0 (getD m j 0) (getD x j 0)) ⌝ }
+// A row of bits times four values.
+pub fn bit_row(m: [u8; 4], x: [u32; 4]) -> u32
+    ensures { λ r. ⌜ r ≡ bitRow m x ⌝ }
 {
     picked(m[0], x[0]) ^ picked(m[1], x[1]) ^ picked(m[2], x[2]) ^ picked(m[3], x[3])
 }
 
-// A matrix of bits times a column.
-pub fn bit_matrix(m: [[u8; 4]; 4], x: [u8; 4]) -> [u8; 4]
-    ensures { λ r. ⌜ r ≡ bitMatrix bitXor 0 4 m x ⌝ }
+fn word_of(a: u8, b: u8, c: u8, d: u8) -> u32
+    ensures { λ r. ⌜ r ≡ word a b c d ⌝ }
 {
-    [
-        bit_row(m[0], x),
-        bit_row(m[1], x),
-        bit_row(m[2], x),
-        bit_row(m[3], x),
-    ]
+    (a as u32) * 16777216 + (b as u32) * 65536 + (c as u32) * 256 + (d as u32)
 }
 
-// Two columns xored.
-pub fn xor4(x: [u8; 4], y: [u8; 4]) -> [u8; 4]
-    ensures { λ r. ⌜ r ≡ addColumns bitXor 0 x y ⌝ }
-{
-    [x[0] ^ y[0], x[1] ^ y[1], x[2] ^ y[2], x[3] ^ y[3]]
-}
-
-// A row of MDS_H: a x + a y + b z + c w.
-fn row_h(x: [u8; 4], y: [u8; 4], z: [u8; 4], w: [u8; 4]) -> [u8; 4]
-    ensures { λ r. ⌜ r ≡ rowH bitXor 0 x y z w ⌝ }
-{
-    xor4(
-        bit_matrix(A, xor4(x, y)),
-        xor4(bit_matrix(B, z), bit_matrix(C, w)),
-    )
-}
-
-// A row of the inverse of MDS_H: d x + c y + c z + e w.
-fn row_h_inverse(x: [u8; 4], y: [u8; 4], z: [u8; 4], w: [u8; 4]) -> [u8; 4]
-    ensures { λ r. ⌜ r ≡ rowH⁻ bitXor 0 x y z w ⌝ }
-{
-    xor4(
-        bit_matrix(D, x),
-        xor4(bit_matrix(C, xor4(y, z)), bit_matrix(E, w)),
-    )
-}
-
-// MDS_H: the rows of matrices are one row, turned.
-fn mds_h(x: [[u8; 4]; 4]) -> [[u8; 4]; 4]
-    ensures { λ r. ⌜ r ≡ MDSH x ⌝ }
+// The block's rows as words: byte k of each column.
+fn rows(x: [[u8; 4]; 4]) -> [u32; 4]
+    ensures { λ r. ⌜ r ≡ rowWords x ⌝ }
 {
     let x0 = x[0];
     let x1 = x[1];
     let x2 = x[2];
     let x3 = x[3];
     [
-        row_h(x0, x1, x2, x3),
-        row_h(x1, x2, x3, x0),
-        row_h(x2, x3, x0, x1),
-        row_h(x3, x0, x1, x2),
+        word_of(x0[0], x1[0], x2[0], x3[0]),
+        word_of(x0[1], x1[1], x2[1], x3[1]),
+        word_of(x0[2], x1[2], x2[2], x3[2]),
+        word_of(x0[3], x1[3], x2[3], x3[3]),
     ]
+}
+
+// Row i of four matrices times the block's rows, each product turned one column further.
+fn turned_rows(
+    a: [[u8; 4]; 4],
+    b: [[u8; 4]; 4],
+    c: [[u8; 4]; 4],
+    d: [[u8; 4]; 4],
+    i: usize,
+    x: [u32; 4],
+) -> [u8; 4]
+    requires { ⌜ i < 4 ⌝ }
+    ensures { λ r. ⌜ r ≡ bytesOf (turnedSum (bitRow (getD a i []) x) (bitRow (getD b i []) x) (bitRow (getD c i []) x) (bitRow (getD d i []) x) ∷ []) ⌝ }
+{
+    turned_sum(
+        bit_row(a[i], x),
+        bit_row(b[i], x),
+        bit_row(c[i], x),
+        bit_row(d[i], x),
+    )
+}
+
+// Four rows as four columns.
+fn transposed(y0: [u8; 4], y1: [u8; 4], y2: [u8; 4], y3: [u8; 4]) -> [[u8; 4]; 4]
+    ensures { λ r. ⌜ r ≡ tab 4 (λ j. getD y0 j 0 ∷ getD y1 j 0 ∷ getD y2 j 0 ∷ getD y3 j 0 ∷ []) ⌝ }
+{
+    [
+        [y0[0], y1[0], y2[0], y3[0]],
+        [y0[1], y1[1], y2[1], y3[1]],
+        [y0[2], y1[2], y2[2], y3[2]],
+        [y0[3], y1[3], y2[3], y3[3]],
+    ]
+}
+
+// MDS_H, a row of the block at a time: a column is a times itself, a times the next, b and c times the ones behind.
+fn mds_h(x: [[u8; 4]; 4]) -> [[u8; 4]; 4]
+    ensures { λ r. ⌜ r ≡ MDSH x ⌝ }
+{
+    let w = rows(x);
+    transposed(
+        turned_rows(A, C, B, A, 0, w),
+        turned_rows(A, C, B, A, 1, w),
+        turned_rows(A, C, B, A, 2, w),
+        turned_rows(A, C, B, A, 3, w),
+    )
 }
 
 // The inverse of MDS_H.
 fn mds_h_inverse(x: [[u8; 4]; 4]) -> [[u8; 4]; 4]
     ensures { λ r. ⌜ r ≡ MDSH⁻ x ⌝ }
 {
-    let x0 = x[0];
-    let x1 = x[1];
-    let x2 = x[2];
-    let x3 = x[3];
-    [
-        row_h_inverse(x0, x1, x2, x3),
-        row_h_inverse(x1, x2, x3, x0),
-        row_h_inverse(x2, x3, x0, x1),
-        row_h_inverse(x3, x0, x1, x2),
-    ]
+    let w = rows(x);
+    transposed(
+        turned_rows(D, E, C, C, 0, w),
+        turned_rows(D, E, C, C, 1, w),
+        turned_rows(D, E, C, C, 2, w),
+        turned_rows(D, E, C, C, 3, w),
+    )
 }
 
 // Round i + 1 of n + 1: XS, then MDS_H, but for the last.

@@ -6,9 +6,11 @@ use crate::tables;
 ghost use mathlib.Core.Path.{_≡_};
 ghost use mathlib.Core.List.{_++_};
 ghost use Prim.Native.Nat.{_+_, _-_, _*_, _/_, _≤_, _<_};
+ghost use lib.Bits.{bitXor};
 ghost use lib.ListN.{length, getD};
 ghost use Rattle.laws.specs.Places.{tab, part};
 ghost use Rattle.laws.specs.Bytes.{xorL};
+ghost use Rattle.laws.specs.Matrix.{bitMatrix};
 ghost use Rattle.hierocrypt3.specs.Operations.{s, P, P⁻, M5E, MB3, Fσ};
 ghost use Rattle.hierocrypt3.specs.Tables.{sTable};
 ghost use Rattle.hierocrypt3.specs.Block.{KeyLength};
@@ -30,14 +32,31 @@ fn joined(x: [u8; 4], y: [u8; 4]) -> [u8; 8]
     [x[0], x[1], x[2], x[3], y[0], y[1], y[2], y[3]]
 }
 
+// Two halves xored.
+fn xor4(x: [u8; 4], y: [u8; 4]) -> [u8; 4]
+    ensures { λ r. ⌜ r ≡ xorL 4 x y ⌝ }
+{
+    [x[0] ^ y[0], x[1] ^ y[1], x[2] ^ y[2], x[3] ^ y[3]]
+}
+
 // Two pieces xored.
 fn xor8(x: [u8; 8], y: [u8; 8]) -> [u8; 8]
     ensures { λ r. ⌜ r ≡ xorL 8 x y ⌝ }
 {
-    joined(
-        block::xor4(half(x, 0), half(y, 0)),
-        block::xor4(half(x, 4), half(y, 4)),
-    )
+    joined(xor4(half(x, 0), half(y, 0)), xor4(half(x, 4), half(y, 4)))
+}
+
+// A matrix of bits times a half.
+fn bit_matrix(m: [[u8; 4]; 4], x: [u8; 4]) -> [u8; 4]
+    ensures { λ r. ⌜ r ≡ bitMatrix bitXor 0 4 m x ⌝ }
+{
+    let w = [x[0] as u32, x[1] as u32, x[2] as u32, x[3] as u32];
+    [
+        block::bit_row(m[0], w) as u8,
+        block::bit_row(m[1], w) as u8,
+        block::bit_row(m[2], w) as u8,
+        block::bit_row(m[3], w) as u8,
+    ]
 }
 
 // M5E (section 3.9).
@@ -45,8 +64,8 @@ fn m5e(x: [u8; 8]) -> [u8; 8]
     ensures { λ r. ⌜ r ≡ M5E x ⌝ }
 {
     joined(
-        block::bit_matrix(block::A, half(x, 0)),
-        block::bit_matrix(block::C, half(x, 4)),
+        bit_matrix(block::A, half(x, 0)),
+        bit_matrix(block::C, half(x, 4)),
     )
 }
 
@@ -58,8 +77,8 @@ fn mb3(x: [u8; 8]) -> [u8; 8]
     ensures { λ r. ⌜ r ≡ MB3 x ⌝ }
 {
     joined(
-        block::bit_matrix(block::D, half(x, 0)),
-        block::bit_matrix(UNC, half(x, 4)),
+        bit_matrix(block::D, half(x, 0)),
+        bit_matrix(UNC, half(x, 4)),
     )
 }
 
@@ -79,7 +98,7 @@ fn p16_second(x: [u8; 8]) -> [u8; 4]
 fn p16(x: [u8; 8]) -> [u8; 8]
     ensures { λ r. ⌜ r ≡ P 2 x ⌝ }
 {
-    joined(block::xor4(half(x, 0), half(x, 4)), p16_second(x))
+    joined(xor4(half(x, 0), half(x, 4)), p16_second(x))
 }
 
 // The first piece of P^(32) on the four halves of two pieces: y1 = x1 + x3, y2 = x2 + x4.
@@ -93,26 +112,23 @@ fn p32_first(x: [u8; 8], y: [u8; 8]) -> [u8; 8]
 fn p32_second(x: [u8; 8], y: [u8; 8]) -> [u8; 8]
     ensures { λ r. ⌜ r ≡ part 0 8 8 (P 4 (x ++ y)) ⌝ }
 {
-    let v = block::xor4(half(y, 0), half(y, 4));
-    joined(block::xor4(half(x, 4), v), block::xor4(half(x, 0), v))
+    let v = xor4(half(y, 0), half(y, 4));
+    joined(xor4(half(x, 4), v), xor4(half(x, 0), v))
 }
 
 // The first piece of the inverse of P^(32): y1 + y2 + y3, y1 + y2 + y4.
 fn p32_inverse_first(x: [u8; 8], y: [u8; 8]) -> [u8; 8]
     ensures { λ r. ⌜ r ≡ part 0 0 8 (P⁻ 4 (x ++ y)) ⌝ }
 {
-    let v = block::xor4(half(x, 0), half(x, 4));
-    joined(block::xor4(v, half(y, 0)), block::xor4(v, half(y, 4)))
+    let v = xor4(half(x, 0), half(x, 4));
+    joined(xor4(v, half(y, 0)), xor4(v, half(y, 4)))
 }
 
 // The second: y2 + y3, y1 + y4.
 fn p32_inverse_second(x: [u8; 8], y: [u8; 8]) -> [u8; 8]
     ensures { λ r. ⌜ r ≡ part 0 8 8 (P⁻ 4 (x ++ y)) ⌝ }
 {
-    joined(
-        block::xor4(half(x, 4), half(y, 0)),
-        block::xor4(half(x, 0), half(y, 4)),
-    )
+    joined(xor4(half(x, 4), half(y, 0)), xor4(half(x, 0), half(y, 4)))
 }
 
 // Fσ (section 3.11).

@@ -1,8 +1,9 @@
 -- Words of 32 bits and their four bytes, the highest first: each way undoes the other, on lists of any length.
-use mathlib.Core.Path.{_≡_, refl, ap, ap₂, _∙_}
+use mathlib.Core.Path.{_≡_, refl, sym, ap, ap₂, _∙_}
 use mathlib.Core.List.{List, [], _∷_}
 use Prim.Native.Nat.{ℕ, zero, suc, _+_, _*_, _/_, _%_, _^_, _<_}
 use native.Mathlib.Omega.{arith}
+use lib.Bits.{bitXor, xor-block}
 use lib.ListN.{length, getD}
 use Rattle.laws.specs.Places.{tab, Each}
 use Rattle.laws.specs.Bytes.{Byte, Bytes, Word, word, wordAt, wordsOf, bytesOf}
@@ -29,6 +30,20 @@ module _ (a b c d : ℕ) (ha : Byte a) (hb : Byte b) (hc : Byte c) (hd : Byte d)
 pub word-bytes : (w : ℕ) → Word 32 w → word (w / 2 ^ 24) (w / 2 ^ 16 % 2 ^ 8) (w / 2 ^ 8 % 2 ^ 8) (w % 2 ^ 8) ≡ w
 word-bytes w h = omega arith
 
+-- ---- two words xored
+horner : (a b c d : ℕ) → word a b c d ≡ ((a * 2 ^ 8 + b) * 2 ^ 8 + c) * 2 ^ 8 + d
+horner a b c d = omega arith
+
+module _ (a b c d a' b' c' d' : ℕ) (hb : Byte b) (hc : Byte c) (hd : Byte d) (hb' : Byte b') (hc' : Byte c') (hd' : Byte d') where
+  pub word-xor : bitXor (word a b c d) (word a' b' c' d') ≡ word (bitXor a a') (bitXor b b') (bitXor c c') (bitXor d d')
+  word-xor =
+      ap₂ bitXor (horner a b c d) (horner a' b' c' d')
+      ∙ xor-block 8 ((a * 2 ^ 8 + b) * 2 ^ 8 + c) ((a' * 2 ^ 8 + b') * 2 ^ 8 + c') d d' hd hd'
+      ∙ ap (λ (n : ℕ). n * 2 ^ 8 + bitXor d d') (xor-block 8 (a * 2 ^ 8 + b) (a' * 2 ^ 8 + b') c c' hc hc')
+      ∙ ap (λ (n : ℕ). (n * 2 ^ 8 + bitXor c c') * 2 ^ 8 + bitXor d d') (xor-block 8 a a' b b' hb hb')
+      ∙ sym (horner (bitXor a a') (bitXor b b') (bitXor c c') (bitXor d d'))
+
+-- ---- bytes of words are bytes
 byte-high : (w : ℕ) → Word 32 w → Byte (w / 2 ^ 24)
 byte-high w h = omega arith
 

@@ -1,6 +1,6 @@
 -- How pairs of functions that undo one another are put together: the other way round, one after the other, over rounds, at each place of a list. A cipher's inverse
 -- is then a term that follows its definition.
-use mathlib.Core.Path.{_≡_, refl, sym, ap, _∙_}
+use mathlib.Core.Path.{_≡_, refl, sym, ap, _∙_, subst}
 use mathlib.Core.List.{List}
 use Prim.Native.Nat.{ℕ, zero, suc, _≤_, _<_}
 use native.Mathlib.Nat.{le-suc, le-refl, le-trans}
@@ -79,4 +79,28 @@ xored-list w n k h =
       off = λ xs l. xorL-words w n xs k l h;
       undo = λ xs l. xorL-cancel-r n xs k (l .long);
       redo = λ xs l. xorL-cancel-r n xs k (l .long);
+    }
+
+-- ---- what is undone on one kind of values is so seen through another kind, where the two can be turned into one another
+module _ {A B : Type 0} {P : A → Type 0} {Q : B → Type 0} (to : A → B) (from : B → A)
+    (to-keeps : (a : A) → P a → Q (to a)) (from-keeps : (b : B) → Q b → P (from b))
+    (from-to : (a : A) → P a → from (to a) ≡ a) (to-from : (b : B) → Q b → to (from b) ≡ b) where
+  pub through : {f g : B → B} → Inverse Q f g → Inverse P (λ a. from (f (to a))) (λ a. from (g (to a)))
+  through {f} {g} v =
+      record {
+        on = λ a p. from-keeps (f (to a)) (v .on (to a) (to-keeps a p));
+        off = λ a p. from-keeps (g (to a)) (v .off (to a) (to-keeps a p));
+        undo = λ a p. ap (λ (b : B). from (g b)) (to-from (f (to a)) (v .on (to a) (to-keeps a p))) ∙ ap from (v .undo (to a) (to-keeps a p)) ∙ from-to a p;
+        redo = λ a p. ap (λ (b : B). from (f b)) (to-from (g (to a)) (v .off (to a) (to-keeps a p))) ∙ ap from (v .redo (to a) (to-keeps a p)) ∙ from-to a p;
+      }
+
+-- ---- two functions that agree with two that undo one another undo one another
+pub alike : {A : Type 0} {P : A → Type 0} {f g h k : A → A} → Inverse P f g
+    → ((a : A) → P a → f a ≡ h a) → ((a : A) → P a → g a ≡ k a) → Inverse P h k
+alike {A} {P} {f} {g} {h} {k} v e d =
+    record {
+      on = λ a p. subst P (e a p) (v .on a p);
+      off = λ a p. subst P (d a p) (v .off a p);
+      undo = λ a p. ap k (sym (e a p)) ∙ sym (d (f a) (v .on a p)) ∙ v .undo a p;
+      redo = λ a p. ap h (sym (d a p)) ∙ sym (e (g a) (v .off a p)) ∙ v .redo a p;
     }

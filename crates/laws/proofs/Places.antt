@@ -125,3 +125,10 @@ module _ {A : Type 0} (d : A) where
 
   pub permute-undo : (from to : List ℕ) (xs : List A) → length xs ≡ length to → T (undoes from to 0) → permute d to (permute d from xs) ≡ xs
   permute-undo from to xs l t = permute-from from to xs 0 t ∙ sym (tab-self (length to) d xs l)
+
+-- ---- within a list it does not matter what is read past its end
+pub each-default : {A : Type 0} {P : A → Type 0} (d e : A) (n : ℕ) (xs : List A) → Each P d n xs → (j : ℕ) → j < n → P (getD xs j e)
+each-default d e zero xs w j h = absurd (not-suc-le-zero h)
+each-default d e (suc n) [] w j h = let l = w .long in absurd (omega arith)
+each-default d e (suc n) (x ∷ xs) w zero h = each-head w
+each-default d e (suc n) (x ∷ xs) w (suc j) h = each-default d e n xs (each-tail w) j (le-of-suc-le-suc h)

@@ -1,10 +1,13 @@
 -- Rounds by their numbers: the loops that make them, and how they are undone.
 use mathlib.Core.Path.{_≡_, refl, sym, ap, _∙_}
+use mathlib.Core.List.{List}
 use Prim.Native.Nat.{ℕ, zero, suc, _+_, _-_, _≤_, _<_}
 use native.Mathlib.Nat.{le-suc, le-trans}
 use native.Mathlib.Numerals.{add-one}
 use native.Mathlib.Omega.{arith}
-use Rattle.laws.specs.Rounds.{steps, back}
+use Rattle.laws.specs.Places.{tab}
+use Rattle.laws.specs.Rounds.{steps, back, run}
+use Rattle.laws.proofs.Places.{tabFrom-suc}
 
 module _ {A : Type 0} where
   -- ---- the loop `q = f(i, q); i += 1;`, from a: its invariant
@@ -71,3 +74,11 @@ module _ {A : Type 0} (P : A → Type 0) (m t u : A → A) (m-keeps : (a : A) �
 
   pub mirrored-undo : (n : ℕ) (a : A) → P a → u (steps n (λ i q. m (u q)) (t (steps n (λ i q. m (t q)) a))) ≡ a
   mirrored-undo n a p = ap u (half-way n a p) ∙ u-t a p
+
+-- ---- rounds over a table of keys are rounds by their numbers
+pub run-tab : {A K : Type 0} (f : K → A → A) (n : ℕ) (k : ℕ → K) (a : A) → run f (tab n k) a ≡ steps n (λ i. f (k i)) a
+run-tab f zero k a = refl
+run-tab {A} {K} f (suc n) k a =
+    ap (λ (ks : List K). run f ks (f (k 0) a)) (tabFrom-suc k 0 n)
+    ∙ run-tab f n (λ j. k (suc j)) (f (k 0) a)
+    ∙ sym (steps-front n (λ i. f (k i)) a)

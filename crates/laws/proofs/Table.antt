@@ -4,8 +4,10 @@ use mathlib.Core.Bool.{Bool, true, false}
 use mathlib.Core.List.{List, [], _∷_}
 use Prim.Native.Nat.{ℕ, zero, suc, _+_, _<_}
 use native.Mathlib.Nat.{add-zero, zero-add, add-suc, suc-add, le-of-suc-le-suc, not-suc-le-zero}
-use lib.Dec.{T}
+use lib.Dec.{T, eqb, eqb→eq}
 use lib.ListN.{length, getD}
+use Rattle.laws.specs.Places.{tab}
+use Rattle.laws.proofs.Places.{tab-is}
 use Rattle.laws.proofs.Test.{both, both-left, both-right}
 
 -- the test f passes at each place, counted from i, and the entry there
@@ -22,3 +24,11 @@ every-from f (x ∷ xs) i t (suc k) h =
 
 pub table-at : (f : ℕ → ℕ → Bool) (xs : List ℕ) → T (every f 0 xs) → (k : ℕ) → k < length xs → T (f k (getD xs k 0))
 table-at f xs t k h = subst (λ (m : ℕ). T (f m (getD xs k 0))) (zero-add k) (every-from f xs 0 t k h)
+
+-- ---- a list is the table of a function where it is so at each place
+-- the rule f is computed as g, which is the same
+pub tab-computed : (n : ℕ) (f g : ℕ → ℕ) → ((k : ℕ) → k < n → g k ≡ f k) → (xs : List ℕ) → length xs ≡ n
+    → T (every (λ k x. eqb x (g k)) 0 xs) → xs ≡ tab n f
+tab-computed n f g same xs long t =
+    tab-is n f 0 xs long
+    (λ k h. eqb→eq (getD xs k 0) (g k) (table-at (λ j x. eqb x (g j)) xs t k (subst (λ (m : ℕ). k < m) (sym long) h)) ∙ same k h)

@@ -1,7 +1,7 @@
 use mathlib.Core.Path.{refl}
 use Rattle.laws.specs.Field.{product}
+use Rattle.laws.proofs.Table.{tab-computed}
 use Rattle.hierocrypt3.specs.Tables.{u, uTable}
-use Rattle.hierocrypt3.proofs.Computed.{tab-computed}
 use Rattle.hierocrypt3.proofs.inverse_tables.u_table.Statement.{statement}
 use Rattle.hierocrypt3.proofs.inverse_tables.u_table.Tie as tie
 

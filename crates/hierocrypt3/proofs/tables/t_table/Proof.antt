@@ -1,9 +1,9 @@
 use mathlib.Core.Path.{refl, ap}
 use lib.ListN.{getD}
 use Rattle.laws.specs.Field.{product}
+use Rattle.laws.proofs.Table.{tab-computed}
 use Rattle.hierocrypt3.specs.Operations.{rowsL}
 use Rattle.hierocrypt3.specs.Tables.{firstColumn, t, tTable}
-use Rattle.hierocrypt3.proofs.Computed.{tab-computed}
 use Rattle.hierocrypt3.proofs.Sbox.{entries, s-entry}
 use Rattle.hierocrypt3.proofs.tables.t_table.Statement.{statement}
 use Rattle.hierocrypt3.proofs.tables.t_table.Tie as tie

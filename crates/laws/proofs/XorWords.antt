@@ -1,37 +1,25 @@
 -- Xor on words is xor on their bytes, for lists of n words.
 use mathlib.Core.Path.{_≡_, sym, ap, ap₂, _∙_}
 use mathlib.Core.List.{List}
-use Prim.Native.Nat.{ℕ, _+_, _*_, _^_, _<_}
+use Prim.Native.Nat.{ℕ, _+_, _*_, _<_}
 use native.Mathlib.Omega.{arith}
 use lib.ListN.{getD}
-use lib.Bits.{bitXor, xor-block}
+use lib.Bits.{bitXor}
 use Rattle.laws.specs.Places.{Each}
 use Rattle.laws.specs.Bytes.{Byte, Bytes, Word, xorL, word, wordAt, wordsOf, bytesOf}
 use Rattle.laws.proofs.Places.{getD-tab, tab-equal}
 use Rattle.laws.proofs.Words.{byte-at}
 use Rattle.laws.proofs.XorLists.{getD-xorL, xorL-bytes}
-use Rattle.laws.proofs.BigEndian.{wordsOf-bytesOf, bytesOf-wordsOf, bytesOf-bytes}
-
-horner : (a b c d : ℕ) → word a b c d ≡ ((a * 2 ^ 8 + b) * 2 ^ 8 + c) * 2 ^ 8 + d
-horner a b c d = omega arith
-
-module _ (a b c d a' b' c' d' : ℕ) (hb : Byte b) (hc : Byte c) (hd : Byte d) (hb' : Byte b') (hc' : Byte c') (hd' : Byte d') where
-  pub word-xor : word (bitXor a a') (bitXor b b') (bitXor c c') (bitXor d d') ≡ bitXor (word a b c d) (word a' b' c' d')
-  word-xor =
-      horner (bitXor a a') (bitXor b b') (bitXor c c') (bitXor d d')
-      ∙ sym (xor-block 8 ((a * 2 ^ 8 + b) * 2 ^ 8 + c) ((a' * 2 ^ 8 + b') * 2 ^ 8 + c') d d' hd hd'
-      ∙ ap (λ (n : ℕ). n * 2 ^ 8 + bitXor d d') (xor-block 8 (a * 2 ^ 8 + b) (a' * 2 ^ 8 + b') c c' hc hc')
-      ∙ ap (λ (n : ℕ). (n * 2 ^ 8 + bitXor c c') * 2 ^ 8 + bitXor d d') (xor-block 8 a a' b b' hb hb'))
-      ∙ sym (ap₂ bitXor (horner a b c d) (horner a' b' c' d'))
+use Rattle.laws.proofs.BigEndian.{word-xor, wordsOf-bytesOf, bytesOf-wordsOf, bytesOf-bytes}
 
 module _ (n : ℕ) (a b : List ℕ) (ha : Bytes (n * 4) a) (hb : Bytes (n * 4) b) where
   wordAt-xor : (i : ℕ) → i < n → wordAt (xorL (n * 4) a b) i ≡ bitXor (wordAt a i) (wordAt b i)
   wordAt-xor i l =
       (λ t. word (at (i * 4) (omega arith) t) (at (i * 4 + 1) (omega arith) t) (at (i * 4 + 2) (omega arith) t) (at (i * 4 + 3) (omega arith) t))
-      ∙ word-xor (getD a (i * 4) 0) (getD a (i * 4 + 1) 0) (getD a (i * 4 + 2) 0) (getD a (i * 4 + 3) 0)
+      ∙ sym (word-xor (getD a (i * 4) 0) (getD a (i * 4 + 1) 0) (getD a (i * 4 + 2) 0) (getD a (i * 4 + 3) 0)
       (getD b (i * 4) 0) (getD b (i * 4 + 1) 0) (getD b (i * 4 + 2) 0) (getD b (i * 4 + 3) 0)
       (byte-at (n * 4) a (i * 4 + 1) ha) (byte-at (n * 4) a (i * 4 + 2) ha) (byte-at (n * 4) a (i * 4 + 3) ha)
-      (byte-at (n * 4) b (i * 4 + 1) hb) (byte-at (n * 4) b (i * 4 + 2) hb) (byte-at (n * 4) b (i * 4 + 3) hb)
+      (byte-at (n * 4) b (i * 4 + 1) hb) (byte-at (n * 4) b (i * 4 + 2) hb) (byte-at (n * 4) b (i * 4 + 3) hb))
     where
       at : (j : ℕ) → j < n * 4 → getD (xorL (n * 4) a b) j 0 ≡ bitXor (getD a j 0) (getD b j 0)
       at = getD-xorL (n * 4) a b
