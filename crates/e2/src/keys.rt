@@ -4,10 +4,10 @@ ghost use mathlib.Core.List.{[]};
 ghost use Prim.Native.Nat.{_+_, _*_, _/_, _%_, _≤_, _<_};
 ghost use lib.ListN.{length, getD, set};
 ghost use Rattle.laws.specs.Places.{tab, part, quarters};
-ghost use Rattle.e2.specs.Steps.{sTable, S, P};
+ghost use Rattle.e2.specs.Steps.{sTable};
 ghost use Rattle.e2.specs.Keys.{KeyLength, fullKey, Y, L, q, roundKeys};
 use crate::block::add;
-use crate::block::p;
+use crate::block::ps;
 use crate::substitution::s;
 use crate::substitution::table;
 
@@ -67,14 +67,6 @@ pub fn full_key(table: &[u8; 256], key: &[u8]) -> [[u8; 8]; 4]
         k2(table, key),
         k3(table, key),
     ]
-}
-
-// P(S(x)).
-pub fn ps(table: &[u8; 256], x: [u8; 8]) -> [u8; 8]
-    requires { ⌜ now table ≡ sTable ⌝ }
-    ensures { λ r. ⌜ r ≡ P (S x) ⌝ }
-{
-    p(s(table, x))
 }
 
 // The Y of G(X, U): Yi := P(S(Xi)).

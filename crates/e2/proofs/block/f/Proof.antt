@@ -20,11 +20,8 @@ mul-at c = search needs
 add-key-requires : tie.Need-add-key-requires
 add-key-requires c κs = search needs
 
-s-requires : tie.Need-s-requires
-s-requires c κs = search needs
-
-p-requires : tie.Need-p-requires
-p-requires c κs = search needs
+ps-requires : tie.Need-ps-requires
+ps-requires c κs = search needs
 
 add-add-key : tie.Need-add-add-key
 add-add-key c = search needs
@@ -32,22 +29,21 @@ add-add-key c = search needs
 add-key-requires-2 : tie.Need-add-key-requires-2
 add-key-requires-2 c κs = search needs
 
-s-requires-2 : tie.Need-s-requires-2
-s-requires-2 c κs = search needs
+s-requires : tie.Need-s-requires
+s-requires c κs = search needs
 
 brl-requires : tie.Need-brl-requires
 brl-requires c κs = search needs
 
 returns : tie.Need-returns
 returns c =
-    let a = c .before .before .before .before .before .before .args in
+    let a = c .before .before .before .before .before .args in
     let n : ℕ = (a .i - 1) * 16 in
     c .brl .ensures
-    ∙ ap BRL (c .before .s2 .ensures
+    ∙ ap BRL (c .before .s .ensures
     ∙ ap S (c .before .before .add-key2 .ensures
     ∙ ap (λ (y : List ℕ). xorL 8 y (part 0 (n + 8) 8 (now (a .keys))))
-    (c .before .before .before .p .ensures
-    ∙ ap P (c .before .before .before .before .s .ensures ∙ ap S (c .before .before .before .before .before .add-key .ensures)))))
+    (c .before .before .before .ps .ensures ∙ ap (λ (y : List ℕ). P (S y)) (c .before .before .before .before .add-key .ensures))))
     ∙ sym (F-at n (a .x) (now (a .keys)))
 
 pub f-spec : {M : Type 1} → statement M
@@ -57,10 +53,9 @@ f-spec =
     sub-at
     mul-at
     add-key-requires
-    s-requires
-    p-requires
+    ps-requires
     add-add-key
     add-key-requires-2
-    s-requires-2
+    s-requires
     brl-requires
     returns)
