@@ -1,5 +1,5 @@
 -- A list filled from the front, and tails of zeros: the loops of `bytes`.
-use mathlib.Core.Path.{_≡_, sym, ap, _∙_}
+use mathlib.Core.Path.{_≡_, refl, sym, ap, _∙_}
 use mathlib.Core.Bool.{Bool, true, false}
 use mathlib.Core.List.{List, [], _∷_, _++_}
 use Prim.Native.Nat.{ℕ, suc, _+_, _-_, _≤_, _<_}
@@ -8,6 +8,7 @@ use native.Mathlib.Numerals.{add-one}
 use lib.ListN.{length, getD, set, take, drop, replicate, drop-of-length-le}
 use lib.Seq.{drop-cons, set-at, append-snoc, take-suc, length-take-le}
 use borrow.Author.Tests.{eq-eqb, ne-eqb}
+use Rattle.laws.specs.Choice.{choose}
 use Rattle.cipher.specs.Schedule.{zeros}
 
 -- ---- zeros
@@ -19,6 +20,15 @@ zeros-not l i h e = rw (drop-cons l i 0, ne-eqb _ _ e)
 
 pub zeros-end : (l : List ℕ) (i : ℕ) → length l ≤ i → true ≡ zeros (drop i l)
 zeros-end l i h = rw drop-of-length-le
+
+-- whether all were zero so far, and all from i on are: one place further, whatever stands there
+pub zeros-found : (l : List ℕ) (i : ℕ) (so-far : Bool) → i < length l → (getD l i 0 ≡ 0 → ⊥) → false ≡ choose so-far (zeros (drop i l)) false
+zeros-found l i true h e = zeros-not l i h e
+zeros-found l i false h e = refl
+
+pub zeros-so-far : (l : List ℕ) (i : ℕ) (so-far : Bool) → length l ≤ i → so-far ≡ choose so-far (zeros (drop i l)) false
+zeros-so-far l i true h = zeros-end l i h
+zeros-so-far l i false h = refl
 
 -- ---- the first i of s, zeros behind, and one more
 pub fill-next : (n : ℕ) (s : List ℕ) (i v : ℕ) → i < n → i < length s → v ≡ getD s i 0

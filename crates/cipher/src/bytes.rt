@@ -5,18 +5,19 @@ ghost use Prim.Native.Nat.{_+_, _≤_};
 ghost use lib.ListN.{length, take, drop};
 ghost use Rattle.cipher.specs.Schedule.{zeros};
 
-// Is every byte from a place on zero?
+// Is every byte from a place on zero? It looks at all of them, which compiles to wide compares.
 pub fn zero_from(bytes: &[u8], from: usize) -> bool
     ensures { λ r. ⌜ r ≡ zeros (drop from (now (bytes .entry))) ⌝ }
 {
+    let mut all = true;
     let mut i = from;
     while i < bytes.len() {
         if bytes[i] != 0 {
-            return false;
+            all = false;
         }
         i += 1;
     }
-    true
+    all
 }
 
 // The 16 bytes from a place on.

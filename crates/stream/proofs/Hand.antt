@@ -1,10 +1,10 @@
--- The bytes at hand: the first k of the held bytes h with a piece p behind them. What `byte_at`, `gather`, `load` and `left_over` read of them.
+-- The bytes at hand: the first k of the held bytes h with a piece p behind them. What `byte_at`, `gather`, `block_of` and `left_over` read of them.
 use mathlib.Core.Path.{_≡_, sym, ap, _∙_}
 use mathlib.Core.List.{List, _++_, append-nil}
-use Prim.Native.Nat.{ℕ, _+_, _-_, _≤_, _<_}
+use Prim.Native.Nat.{ℕ, _+_, _-_, _*_, _≤_, _<_}
 use native.Mathlib.Omega.{arith}
-use lib.ListN.{length, getD, set, take, drop, replicate, length-append, length-drop, length-replicate, replicate-append-replicate, List·getD-append}
-use lib.Seq.{length-take-le, getD-take, getD-append-add, drop-append-add, getD-drop, take-append-add, take-at}
+use lib.ListN.{length, getD, set, take, drop, replicate, take-append-drop, length-append, length-drop, length-replicate, replicate-append-replicate, List·getD-append}
+use lib.Seq.{length-take-le, getD-take, getD-append-add, drop-append-add, drop-drop, getD-drop, take-append-add, take-at}
 use Rattle.cipher.proofs.Fill.{fill-next}
 use Rattle.stream.specs.State.{held15}
 use Rattle.stream.specs.Parts.{padded16}
@@ -58,20 +58,33 @@ fifteen l h =
     ∙ ap (λ (n : ℕ). l ++ take (15 - length l) (replicate n 0)) f
     ∙ ap (λ (z : List ℕ). l ++ z) (take-replicate (15 - length l) 1)
 
--- ---- a block of the bytes at hand: from held bytes and piece, or from the piece alone
-module _ (h p : List ℕ) (k at : ℕ) (fits : k ≤ length h) where
-  pub load-low : at + 16 ≤ k + length p → padded16 (take 16 (drop at (take k h ++ p))) ≡ take 16 (drop at (take k h ++ p))
-  load-low there =
+-- ---- a message by its first block f and what stands in a piece p from a place on
+module _ (f p : List ℕ) (from : ℕ) (whole : length f ≡ 16) where
+  pub block-first : (j : ℕ) → j ≡ 0 → f ≡ take 16 (drop (16 * j) (f ++ drop from p))
+  block-first j none = rw none (sym (take-at f (drop from p) 16 whole))
+
+  pub block-later : (j : ℕ) → (j ≡ 0 → ⊥) → take 16 (drop (from + 16 * (j - 1)) p) ≡ take 16 (drop (16 * j) (f ++ drop from p))
+  block-later j some =
+      let m : 16 * j ≡ length f + 16 * (j - 1) = omega arith in
+      sym (ap (λ (n : ℕ). take 16 (drop n (f ++ drop from p))) m
+      ∙ ap (take 16) (drop-append-add f (drop from p) (16 * (j - 1)))
+      ∙ ap (take 16) (drop-drop (16 * (j - 1)) from p))
+
+-- ---- the bytes at hand as such a message
+module _ (h p : List ℕ) (k : ℕ) (fits : k ≤ length h) where
+  pub first-of-hand : 16 ≤ k + length p → padded16 (take 16 (take k h ++ p)) ≡ take 16 (take k h ++ p)
+  first-of-hand there =
       let n = hand-length h p k fits in
-      let d = length-drop at (take k h ++ p) in
-      padded16-whole (take 16 (drop at (take k h ++ p))) (length-take-le 16 (drop at (take k h ++ p)) (omega arith))
+      padded16-whole (take 16 (take k h ++ p)) (length-take-le 16 (take k h ++ p) (omega arith))
 
-  pub load-high : k ≤ at → take 16 (drop (at - k) p) ≡ take 16 (drop at (take k h ++ p))
-  load-high le =
+  pub hand-split : k ≤ 16 → take 16 (take k h ++ p) ++ drop (16 - k) p ≡ take k h ++ p
+  hand-split le =
       let e : length (take k h) ≡ k = length-take-le k h fits in
-      let m : at ≡ length (take k h) + (at - k) = omega arith in
-      sym (ap (λ (n : ℕ). take 16 (drop n (take k h ++ p))) m ∙ ap (take 16) (drop-append-add (take k h) p (at - k)))
+      let m : 16 ≡ length (take k h) + (16 - k) = omega arith in
+      ap (λ (l : List ℕ). take 16 (take k h ++ p) ++ l) (sym (ap (λ (n : ℕ). drop n (take k h ++ p)) m ∙ drop-append-add (take k h) p (16 - k)))
+      ∙ take-append-drop 16 (take k h ++ p)
 
+module _ (h p : List ℕ) (k at : ℕ) (fits : k ≤ length h) where
   pub left-length : (m : ℕ) → at + m ≤ k + length p → length (take m (drop at (take k h ++ p))) ≡ m
   left-length m there =
       let n = hand-length h p k fits in

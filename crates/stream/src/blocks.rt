@@ -34,15 +34,15 @@ fn gather(held: &[u8], kept: usize, piece: &[u8], at: usize, m: usize) -> [u8; 1
     x
 }
 
-// The block at a place of the held bytes with the piece behind them: straight from the piece where no held byte is in it.
-fn load(held: &[u8], kept: usize, piece: &[u8], at: usize) -> [u8; 16]
-    requires { ⌜ (kept ≤ length (now held)) × (at + 16 ≤ kept + length (now piece)) ⌝ }
-    ensures { λ r. ⌜ r ≡ take 16 (drop at (take kept (now (held .entry)) ++ now (piece .entry))) ⌝ }
+// Block j of a message: its first block is given, the others stand in the piece from a place on.
+fn block_of(first: [u8; 16], piece: &[u8], from: usize, j: usize) -> [u8; 16]
+    requires { ⌜ from + 16 * j ≤ length (now piece) ⌝ }
+    ensures { λ r. ⌜ r ≡ take 16 (drop (16 * j) (first ++ drop from (now (piece .entry)))) ⌝ }
 {
-    if at < kept {
-        return gather(held, kept, piece, at, 16);
+    if j == 0 {
+        return first;
     }
-    cipher::bytes::block_at(piece, at - kept)
+    cipher::bytes::block_at(piece, from + 16 * (j - 1))
 }
 
 // The first fifteen of sixteen bytes.
@@ -143,7 +143,7 @@ fn chained(
     }
 }
 
-// n blocks from the held bytes and the piece, through CBC, to the front of the output, with the tables lent. The chain block behind them.
+// n blocks, at least one, from the held bytes and the piece, through CBC, to the front of the output, with the tables lent. The chain block behind them.
 fn run_with(
     sbox: &[u8; 256],
     t_table: &[u32; 256],
@@ -156,7 +156,7 @@ fn run_with(
     n: usize,
 ) -> [u8; 16]
     requires { ⌜ Forward (now sbox) (now «t_table») (now «e2_sbox») × Backward (now unsbox) (now «u_table») (now «e2_sbox»)
-        × (isLength (s .schedule .cipher) (s .schedule .«key_length») ≡ true)
+        × (isLength (s .schedule .cipher) (s .schedule .«key_length») ≡ true) × (0 < n)
         × (16 * n ≤ s .count % 16 + length (now piece)) × (16 * n ≤ length (now out)) ⌝ }
     ensures { λ r. ⌜ Ran s (now (piece .entry)) (now (out .entry)) n r (now (out .exit)) ⌝ }
 {
@@ -164,11 +164,12 @@ fn run_with(
     let keys = schedule.round_keys;
     let held = s.held;
     let kept = (s.count % 16) as usize;
+    let first = gather(&held, kept, piece, 0, 16);
     let mut chain = s.chain;
     let mut j = 0;
     while j < n {
         let at = 16 * j;
-        let x = load(&held, kept, piece, at);
+        let x = block_of(first, piece, 16 - kept, j);
         let t = chained(
             sbox,
             t_table,
@@ -191,16 +192,12 @@ fn run_with(
     chain
 }
 
-// The same, with the tables set up once; none are where there is no block.
+// The same, with the tables set up once.
 pub fn run(s: Stream, piece: &[u8], out: &mut [u8], n: usize) -> [u8; 16]
-    requires { ⌜ (isLength (s .schedule .cipher) (s .schedule .«key_length») ≡ true)
+    requires { ⌜ (isLength (s .schedule .cipher) (s .schedule .«key_length») ≡ true) × (0 < n)
         × (16 * n ≤ s .count % 16 + length (now piece)) × (16 * n ≤ length (now out)) ⌝ }
     ensures { λ r. ⌜ Ran s (now (piece .entry)) (now (out .entry)) n r (now (out .exit)) ⌝ }
 {
-    if n == 0 {
-        let chain = s.chain;
-        return chain;
-    }
     let sbox = hierocrypt3::tables::sbox();
     let t_table = hierocrypt3::tables::t_table();
     let unsbox = hierocrypt3::inverse_tables::unsbox();

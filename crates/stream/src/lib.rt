@@ -100,7 +100,11 @@ impl Stream {
         }
         let kept = (self.count % 16) as usize;
         let n = (kept + piece.len()) / 16;
-        let chain = blocks::run(self, piece, out, n);
+        let mut chain = self.chain;
+        if n > 0 {
+            let last = blocks::run(self, piece, out, n);
+            chain = last;
+        }
         let old = self.held;
         let held = blocks::left_over(&old, kept, piece, 16 * n, (kept + piece.len()) % 16);
         let schedule = self.schedule;
