@@ -1,0 +1,73 @@
+-- A text of hex digits: two to a byte, the first the higher, white space ignored. Characters are ASCII numbers.
+use mathlib.Core.Path.{_≡_}
+use mathlib.Core.Bool.{Bool, true, false}
+use mathlib.Core.List.{List, [], _∷_}
+use Prim.Native.Nat.{ℕ, suc, _+_, _*_, _-_, _/_, _≤_, _<_}
+use lib.Dec.{eqb, ltb}
+use lib.ListN.{length, getD, take}
+use Rattle.io.specs.Counts.{Counts}
+use Rattle.laws.specs.Choice.{choose}
+use Rattle.laws.specs.Places.{tab}
+
+-- a space, or one of the five from tab to carriage return
+unfoldable pub white : ℕ → Bool
+white c = choose (eqb c 32) true (choose (ltb c 9) false (ltb c 14))
+
+-- the value of 0 to 9, A to F or a to f, and 16 of every other character
+unfoldable pub value : ℕ → ℕ
+value c =
+    choose (ltb c 48) 16
+    (choose (ltb c 58) (c - 48)
+    (choose (ltb c 65) 16
+    (choose (ltb c 71) (c - 65 + 10)
+    (choose (ltb c 97) 16
+    (choose (ltb c 103) (c - 97 + 10) 16)))))
+
+-- neither white space nor a digit
+unfoldable pub bad : ℕ → Bool
+bad c = choose (white c) false (eqb (value c) 16)
+
+-- the place of the first bad character, or the text's length
+abbrev pub firstBad : List ℕ → ℕ
+firstBad [] = 0
+firstBad (c ∷ text) = choose (bad c) 0 (suc (firstBad text))
+
+-- the values of the digits
+abbrev pub digits : List ℕ → List ℕ
+digits [] = []
+digits (c ∷ text) = choose (white c) (digits text) (value c ∷ digits text)
+
+-- the byte of two digits
+abbrev pub byte : ℕ → ℕ → ℕ
+byte high low = high * 16 + low
+
+-- the bytes of digits, of which a last one without a partner is left out
+abbrev pub joined : List ℕ → List ℕ
+joined ds = tab (length ds / 2) (λ j. byte (getD ds (2 * j) 0) (getD ds (2 * j + 1) 0))
+
+-- no character is bad
+abbrev pub Good : List ℕ → Type 0
+Good text = firstBad text ≡ length text
+
+-- every one is a digit's value
+abbrev pub Small : List ℕ → Type 0
+Small ds = (j : ℕ) → j < length ds → getD ds j 0 < 16
+
+-- the n values at the front of a list are the digits of a text
+pub record Spelled (text : List ℕ) (n : ℕ) (values : List ℕ) : Type 0 where
+  pub counts : Counts n values
+  pub short : n ≤ length text
+  pub spelled : take n values ≡ digits text
+  pub small : Small (take n values)
+
+-- a text has n digits, and their bytes are at the front of a list
+pub record Read (text : List ℕ) (n : ℕ) (bytes : List ℕ) : Type 0 where
+  pub counts : Counts (n / 2) bytes
+  pub count : n ≡ length (digits text)
+  pub bytes-are : take (n / 2) bytes ≡ joined (digits text)
+
+-- a text is good, it has an even number of digits, and their n bytes are at the front of a list
+pub record Spells (text : List ℕ) (n : ℕ) (bytes : List ℕ) : Type 0 where
+  pub good : Good text
+  pub even : length (digits text) ≡ 2 * n
+  pub bytes-are : take n bytes ≡ joined (digits text)
