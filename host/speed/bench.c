@@ -1,29 +1,16 @@
-/* One line for each work, NAME NS RATIO: nanoseconds a block, and the ratio to C at -O3
-   in the same run. A line of cbc has the ratio to the cipher's own blocks; so has a line of
-   piece, whose pieces are one byte each and whose time is that of a piece beyond the blocks. */
+/* Measures every work of works.h for each cipher and direction, a line WORK NAME AMOUNT for each, an amount being that
+   of a block. `bench times`: the shortest of many runs in turn, in nanoseconds. `bench counts`, which callgrind runs:
+   a dump for each, called WORK NAME BLOCKS. host/bench makes its lines of both. */
+#define _POSIX_C_SOURCE 199309L
+#include "works.h"
+
 #include <stdio.h>
-#include <stdlib.h>
 #include <string.h>
 #include <time.h>
-#include <tomcrypt.h>
+#include <valgrind/callgrind.h>
 
-#include "speed.h"
-
-uint64_t tlilcueyoh_speed_blocks(uint64_t cipher, uint64_t direction, const uint8_t *key, size_t key_len,
-                                 const uint8_t *in, size_t in_len, uint8_t *out, size_t out_len);
-uint64_t tlilcueyoh_speed_cbc(uint64_t cipher, uint64_t direction, const uint8_t *key, size_t key_len,
-                              const uint8_t *first, size_t first_len, const uint8_t *in, size_t in_len,
-                              uint8_t *out, size_t out_len);
-uint64_t tlilcueyoh_speed_bytes(uint64_t cipher, uint64_t direction, const uint8_t *key, size_t key_len,
-                                const uint8_t *first, size_t first_len, const uint8_t *in, size_t in_len,
-                                uint8_t *out, size_t out_len);
-
-enum { BLOCKS = 4096, BYTES = 16 * BLOCKS, REPEATS = 200, ENCIPHER = 1, DECIPHER = 2 };
-enum { HIEROCRYPT3 = 1, E2 = 2, NOEKEON = 3 };
-
-static const char *const names[] = { "", "hierocrypt3", "e2", "noekeon" };
-static uint8_t key[16], first[16], keys[288], in[BYTES], out[BYTES], other[BYTES];
-static symmetric_key noekeon;
+/* Pieces of one byte take so long that they are run less often. */
+enum { REPEATS = 1000, BYTES_EVERY = 20 };
 
 static double now(void)
 {
@@ -32,80 +19,54 @@ static double now(void)
     return 1e9 * (double)t.tv_sec + (double)t.tv_nsec;
 }
 
-static void done(uint64_t answer)
-{
-    if (answer == 0)
-        return;
-    fprintf(stderr, "bench: refused %d\n", (int)answer);
-    exit(1);
-}
-
-static void blocks(int cipher, int direction)
-{
-    done(tlilcueyoh_speed_blocks(cipher, direction, key, 16, in, BYTES, out, BYTES));
-}
-
-static void cbc(int cipher, int direction)
-{
-    done(tlilcueyoh_speed_cbc(cipher, direction, key, 16, first, 16, in, BYTES, out, BYTES));
-}
-
-static void pieces(int cipher, int direction)
-{
-    done(tlilcueyoh_speed_bytes(cipher, direction, key, 16, first, 16, in, BYTES, out, BYTES));
-}
-
-/* For the time alone: the yardsticks take any round keys, and libtomcrypt's Noekeon has
-   round constants and full rotations, which 003's lacks. */
-static void yardstick(int cipher, int direction)
-{
-    if (cipher == HIEROCRYPT3)
-        (direction == ENCIPHER ? hierocrypt3_encipher : hierocrypt3_decipher)(keys, 6, in, other, BLOCKS);
-    else if (cipher == E2)
-        (direction == ENCIPHER ? e2_encipher : e2_decipher)(keys, in, other, BLOCKS);
-    else
-        for (size_t i = 0; i < BYTES; i += 16)
-            (direction == ENCIPHER ? noekeon_ecb_encrypt : noekeon_ecb_decrypt)(in + i, other + i, &noekeon);
-}
-
-static void shortest(double *best, void (*work)(int, int), int cipher, int direction)
+static void shortest(double *best, const struct work *work, int cipher, int direction)
 {
     double begun = now();
-    work(cipher, direction);
-    double took = (now() - begun) / BLOCKS;
+    work->run(cipher, direction);
+    double took = (now() - begun) / work->blocks;
     if (took < *best)
         *best = took;
 }
 
-static void measure(int cipher, int direction)
+static void times(const char *name, int cipher, int direction)
 {
-    const char *way = direction == ENCIPHER ? "encipher" : "decipher";
-    double ours = 1e12, chained = 1e12, cut = 1e12, c = 1e12;
-    for (int i = 0; i < REPEATS; i++) {
-        shortest(&ours, blocks, cipher, direction);
-        shortest(&c, yardstick, cipher, direction);
-        shortest(&chained, cbc, cipher, direction);
-        if (i % 10 == 0)
-            shortest(&cut, pieces, cipher, direction);
-    }
-    printf("%s-%s %.1f %.2f\n", names[cipher], way, ours, ours / c);
-    printf("cbc-%s-%s %.1f %.2f\n", names[cipher], way, chained, chained / ours);
-    printf("piece-%s-%s %.1f %.2f\n", names[cipher], way, (cut - ours) / 16, cut / ours);
+    double best[WORKS];
+    for (int w = 0; w < WORKS; w++)
+        best[w] = 1e12;
+    for (int i = 0; i < REPEATS; i++)
+        for (int w = 0; w < WORKS; w++)
+            if (w != OUR_BYTES || i % BYTES_EVERY == 0)
+                shortest(&best[w], &works[w], cipher, direction);
+    for (int w = 0; w < WORKS; w++)
+        printf("%s %s %.3f\n", works[w].name, name, best[w]);
 }
 
-int main(void)
+static void counts(const char *name, int cipher, int direction)
 {
-    srand(1);
-    for (size_t i = 0; i < BYTES; i++)
-        in[i] = (uint8_t)rand();
-    memcpy(key, in, 16);
-    memcpy(keys, in, 288);
-    hierocrypt3_tables();
-    e2_tables();
-    if (noekeon_setup(key, 16, 0, &noekeon) != CRYPT_OK)
-        return 1;
+    char title[64];
+    for (int w = 0; w < WORKS; w++) {
+        snprintf(title, sizeof title, "%s %s %d", works[w].name, name, works[w].blocks);
+        CALLGRIND_ZERO_STATS;
+        works[w].run(cipher, direction);
+        CALLGRIND_DUMP_STATS_AT(title);
+    }
+}
+
+int main(int argc, char **argv)
+{
+    static const char *const ciphers[] = { "", "hierocrypt3", "e2", "noekeon" };
+    static const char *const ways[] = { "", "encipher", "decipher" };
+    if (argc != 2 || (strcmp(argv[1], "times") != 0 && strcmp(argv[1], "counts") != 0)) {
+        fprintf(stderr, "bench times | counts\n");
+        return 2;
+    }
+    make_ready();
+    hold_to_each_other();
     for (int cipher = HIEROCRYPT3; cipher <= NOEKEON; cipher++)
-        for (int direction = ENCIPHER; direction <= DECIPHER; direction++)
-            measure(cipher, direction);
+        for (int direction = ENCIPHER; direction <= DECIPHER; direction++) {
+            char name[32];
+            snprintf(name, sizeof name, "%s-%s", ciphers[cipher], ways[direction]);
+            (strcmp(argv[1], "times") == 0 ? times : counts)(name, cipher, direction);
+        }
     return 0;
 }

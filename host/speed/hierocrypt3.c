@@ -1,8 +1,10 @@
-/* Hierocrypt-3 in C as one would write it for speed: T-tables on words for S and mds_L, MDS_H on rows.
-   The yardstick of host/bench; nothing of the product uses it. */
-#include "speed.h"
+/* Hierocrypt-3 in C as one would write it for speed: T-tables on words for S and mds_L, MDS_H on rows. Deciphering
+   takes the same road as the proved code, the inverse of S and then a table for that of mds_L.
+   A yardstick of host/bench; nothing of the product uses it. */
+#include "hierocrypt3.h"
 
-static uint8_t s[256], unsubstituted[256];
+uint8_t hierocrypt3_s[256];
+static uint8_t unsubstituted[256];
 static uint32_t forward[4][256], backward[4][256];
 
 static uint8_t product(uint8_t a, uint8_t b)
@@ -33,41 +35,41 @@ static uint32_t column(uint8_t x, const uint8_t *row, int place)
     return w;
 }
 
-void hierocrypt3_tables(void)
+static void tables(void)
 {
     static const uint8_t row[4] = { 0xc4, 0x65, 0xc8, 0x8b }, inverse[4] = { 0x82, 0xc4, 0x34, 0xf6 };
     for (int x = 0; x < 256; x++) {
         uint8_t power = 1;
         for (int i = 0; i < 247; i++)
             power = product(power, permuted((uint8_t)x));
-        s[x] = power ^ 0x07;
-        unsubstituted[s[x]] = (uint8_t)x;
+        hierocrypt3_s[x] = power ^ 0x07;
+        unsubstituted[hierocrypt3_s[x]] = (uint8_t)x;
     }
     for (int x = 0; x < 256; x++)
         for (int j = 0; j < 4; j++) {
-            forward[j][x] = column(s[x], row, j);
+            forward[j][x] = column(hierocrypt3_s[x], row, j);
             backward[j][x] = column((uint8_t)x, inverse, j);
         }
-}
-
-static inline uint8_t at(uint32_t w, int i) { return (uint8_t)(w >> (24 - 8 * i)); }
-
-static inline void turned(uint32_t *y, const uint32_t *x)
-{
-    for (int i = 0; i < 4; i++)
-        y[i] = word_of(at(x[0], i), at(x[1], i), at(x[2], i), at(x[3], i));
 }
 
 static inline void substituted(uint32_t *rows, const uint8_t *table, const uint32_t *columns)
 {
     for (int i = 0; i < 4; i++)
-        rows[i] = word_of(table[at(columns[0], i)], table[at(columns[1], i)], table[at(columns[2], i)], table[at(columns[3], i)]);
+        rows[i] = word_of(table[at(columns[0], i)], table[at(columns[1], i)], table[at(columns[2], i)],
+                          table[at(columns[3], i)]);
 }
 
 static inline void mixed(uint32_t *columns, uint32_t t[4][256], const uint32_t *rows)
 {
     for (int i = 0; i < 4; i++)
         columns[i] = t[0][at(rows[0], i)] ^ t[1][at(rows[1], i)] ^ t[2][at(rows[2], i)] ^ t[3][at(rows[3], i)];
+}
+
+static inline void unmixed(uint32_t *columns, uint32_t t[4][256])
+{
+    for (int i = 0; i < 4; i++)
+        columns[i] = t[0][at(columns[i], 0)] ^ t[1][at(columns[i], 1)] ^ t[2][at(columns[i], 2)] ^
+                     t[3][at(columns[i], 3)];
 }
 
 static inline void mds_h(uint32_t *r)
@@ -90,63 +92,82 @@ static inline void mds_h_inverse(uint32_t *r)
     r[3] = p ^ u ^ v ^ left(c3, 8) ^ left(c3, 16) ^ left(p ^ q, 24);
 }
 
-static inline void add(uint32_t *x, const uint32_t *k)
+static inline void encipher(uint32_t *columns, const struct hierocrypt3_keys *keys)
 {
-    for (int i = 0; i < 4; i++)
-        x[i] ^= k[i];
-}
-
-/* The first half of each key as rows, the second as columns. */
-static void prepared(uint32_t k[9][8], const uint8_t *keys, int rounds)
-{
-    for (int t = 0; t <= rounds; t++) {
-        uint32_t columns[4];
-        load4(columns, keys + 32 * t);
-        turned(k[t], columns);
-        load4(k[t] + 4, keys + 32 * t + 16);
+    uint32_t rows[4];
+    turned(rows, columns);
+    for (int t = 0; t < keys->rounds; t++) {
+        if (t)
+            mds_h(rows);
+        add(rows, keys->k[t]);
+        mixed(columns, forward, rows);
+        add(columns, keys->k[t] + 4);
+        substituted(rows, hierocrypt3_s, columns);
     }
+    add(rows, keys->k[keys->rounds]);
+    turned(columns, rows);
 }
 
-void hierocrypt3_encipher(const uint8_t *keys, int rounds, const uint8_t *in, uint8_t *out, size_t blocks)
+static inline void decipher(uint32_t *columns, const struct hierocrypt3_keys *keys)
 {
-    uint32_t k[9][8], columns[4], rows[4];
-    prepared(k, keys, rounds);
-    for (; blocks; blocks--, in += 16, out += 16) {
-        load4(columns, in);
-        turned(rows, columns);
-        for (int t = 0; t < rounds; t++) {
-            if (t)
-                mds_h(rows);
-            add(rows, k[t]);
-            mixed(columns, forward, rows);
-            add(columns, k[t] + 4);
-            substituted(rows, s, columns);
+    uint32_t rows[4];
+    turned(rows, columns);
+    add(rows, keys->k[keys->rounds]);
+    for (int t = keys->rounds; t-- > 0;) {
+        if (t < keys->rounds - 1)
+            mds_h_inverse(rows);
+        substituted(columns, unsubstituted, rows);
+        add(columns, keys->k[t] + 4);
+        unmixed(columns, backward);
+        substituted(rows, unsubstituted, columns);
+        add(rows, keys->k[t]);
+    }
+    turned(columns, rows);
+}
+
+static void blocks_of(int direction, const uint8_t *key, const uint8_t *in, uint8_t *out, size_t blocks)
+{
+    struct hierocrypt3_keys keys;
+    uint32_t x[4];
+    hierocrypt3_set_up(&keys, key);
+    if (direction == ENCIPHER)
+        for (; blocks; blocks--, in += 16, out += 16) {
+            load4(x, in);
+            encipher(x, &keys);
+            store4(out, x);
         }
-        add(rows, k[rounds]);
-        turned(columns, rows);
-        store4(out, columns);
-    }
+    else
+        for (; blocks; blocks--, in += 16, out += 16) {
+            load4(x, in);
+            decipher(x, &keys);
+            store4(out, x);
+        }
 }
 
-void hierocrypt3_decipher(const uint8_t *keys, int rounds, const uint8_t *in, uint8_t *out, size_t blocks)
+static void cbc_of(int direction, const uint8_t *key, const uint8_t *first, const uint8_t *in, uint8_t *out,
+                   size_t blocks)
 {
-    uint32_t k[9][8], columns[4], rows[4], rest[4];
-    prepared(k, keys, rounds);
-    for (; blocks; blocks--, in += 16, out += 16) {
-        load4(columns, in);
-        turned(rows, columns);
-        add(rows, k[rounds]);
-        for (int t = rounds; t-- > 0;) {
-            if (t < rounds - 1)
-                mds_h_inverse(rows);
-            substituted(columns, unsubstituted, rows);
-            add(columns, k[t] + 4);
-            turned(rest, columns);
-            mixed(columns, backward, rest);
-            substituted(rows, unsubstituted, columns);
-            add(rows, k[t]);
+    struct hierocrypt3_keys keys;
+    uint32_t chain[4], x[4], next[4];
+    hierocrypt3_set_up(&keys, key);
+    load4(chain, first);
+    if (direction == ENCIPHER)
+        for (; blocks; blocks--, in += 16, out += 16) {
+            load4(x, in);
+            add(chain, x);
+            encipher(chain, &keys);
+            store4(out, chain);
         }
-        turned(columns, rows);
-        store4(out, columns);
-    }
+    else
+        for (; blocks; blocks--, in += 16, out += 16) {
+            load4(x, in);
+            load4(next, in);
+            decipher(x, &keys);
+            add(x, chain);
+            store4(out, x);
+            for (int i = 0; i < 4; i++)
+                chain[i] = next[i];
+        }
 }
+
+const struct yardstick hierocrypt3_yardstick = { tables, blocks_of, cbc_of };

@@ -1,8 +1,28 @@
-/* What the yardsticks share. */
+/* The yardsticks: each cipher in C, and the small functions on words that they share. */
+#ifndef SPEED_H
+#define SPEED_H
+
 #include <stddef.h>
 #include <stdint.h>
 
+enum { HIEROCRYPT3 = 1, E2 = 2, NOEKEON = 3 };
+enum { ENCIPHER = 1, DECIPHER = 2 };
+
+/* A cipher under a key of 16 bytes, which is set up in each call: whole blocks, each by
+   itself or chained. */
+struct yardstick {
+    /* once, before anything else */
+    void (*make_ready)(void);
+    void (*blocks)(int direction, const uint8_t *key, const uint8_t *in, uint8_t *out, size_t blocks);
+    void (*cbc)(int direction, const uint8_t *key, const uint8_t *first, const uint8_t *in, uint8_t *out,
+                size_t blocks);
+};
+
+extern const struct yardstick hierocrypt3_yardstick, e2_yardstick, noekeon_yardstick;
+
 static inline uint32_t left(uint32_t x, int n) { return x << n | x >> (32 - n); }
+
+static inline uint8_t at(uint32_t w, int i) { return (uint8_t)(w >> (24 - 8 * i)); }
 
 static inline uint32_t word_of(uint8_t a, uint8_t b, uint8_t c, uint8_t d)
 {
@@ -21,9 +41,22 @@ static inline void store4(uint8_t *b, const uint32_t *w)
         b[i] = (uint8_t)(w[i / 4] >> (24 - 8 * (i & 3)));
 }
 
-void hierocrypt3_tables(void);
-void hierocrypt3_encipher(const uint8_t *keys, int rounds, const uint8_t *in, uint8_t *out, size_t blocks);
-void hierocrypt3_decipher(const uint8_t *keys, int rounds, const uint8_t *in, uint8_t *out, size_t blocks);
-void e2_tables(void);
-void e2_encipher(const uint8_t *keys, const uint8_t *in, uint8_t *out, size_t blocks);
-void e2_decipher(const uint8_t *keys, const uint8_t *in, uint8_t *out, size_t blocks);
+static inline void add(uint32_t *x, const uint32_t *k)
+{
+    for (int i = 0; i < 4; i++)
+        x[i] ^= k[i];
+}
+
+/* Rows for columns: byte j of word i becomes byte i of word j. */
+static inline void turned(uint32_t *y, const uint32_t *x)
+{
+    const uint32_t odd = 0xff00ff00, even = 0x00ff00ff;
+    uint32_t a = (x[0] & odd) | (x[1] >> 8 & even), b = (x[0] << 8 & odd) | (x[1] & even);
+    uint32_t c = (x[2] & odd) | (x[3] >> 8 & even), d = (x[2] << 8 & odd) | (x[3] & even);
+    y[0] = (a & 0xffff0000) | c >> 16;
+    y[1] = (b & 0xffff0000) | d >> 16;
+    y[2] = a << 16 | (c & 0xffff);
+    y[3] = b << 16 | (d & 0xffff);
+}
+
+#endif

@@ -1,0 +1,107 @@
+/* See works.h. */
+#include "works.h"
+#include "../tlilcueyoh.h"
+
+#include <stdio.h>
+#include <stdlib.h>
+#include <string.h>
+
+uint64_t tlilcueyoh_speed_blocks(uint64_t cipher, uint64_t direction, const uint8_t *key, size_t key_len,
+                                 const uint8_t *in, size_t in_len, uint8_t *out, size_t out_len);
+uint64_t tlilcueyoh_speed_cbc(uint64_t cipher, uint64_t direction, const uint8_t *key, size_t key_len,
+                              const uint8_t *first, size_t first_len, const uint8_t *in, size_t in_len,
+                              uint8_t *out, size_t out_len);
+uint64_t tlilcueyoh_speed_bytes(uint64_t cipher, uint64_t direction, const uint8_t *key, size_t key_len,
+                                const uint8_t *first, size_t first_len, const uint8_t *in, size_t in_len,
+                                uint8_t *out, size_t out_len);
+
+static const struct yardstick *const yardsticks[] = {
+    NULL, &hierocrypt3_yardstick, &e2_yardstick, &noekeon_yardstick,
+};
+static uint8_t key[16], first[16], in[BYTES], out[BYTES], other[BYTES];
+
+static void done(uint64_t answer)
+{
+    if (answer == TLILCUEYOH_DONE)
+        return;
+    fprintf(stderr, "bench: refused %d\n", (int)answer);
+    exit(1);
+}
+
+static void our_blocks(int cipher, int direction)
+{
+    done(tlilcueyoh_speed_blocks(cipher, direction, key, 16, in, BYTES, out, BYTES));
+}
+
+static void c_blocks(int cipher, int direction)
+{
+    yardsticks[cipher]->blocks(direction, key, in, other, BLOCKS);
+}
+
+static void our_cbc(int cipher, int direction)
+{
+    done(tlilcueyoh_speed_cbc(cipher, direction, key, 16, first, 16, in, BYTES, out, BYTES));
+}
+
+static void c_cbc(int cipher, int direction)
+{
+    yardsticks[cipher]->cbc(direction, key, first, in, other, BLOCKS);
+}
+
+static void our_entry(int cipher, int direction)
+{
+    for (size_t i = 0; i < 16 * ENTRIES; i += 16)
+        done(tlilcueyoh_block(cipher, direction, key, 16, in + i, 16, out + i, 16));
+}
+
+static void c_entry(int cipher, int direction)
+{
+    for (size_t i = 0; i < 16 * ENTRIES; i += 16)
+        yardsticks[cipher]->blocks(direction, key, in + i, other + i, 1);
+}
+
+static void our_bytes(int cipher, int direction)
+{
+    done(tlilcueyoh_speed_bytes(cipher, direction, key, 16, first, 16, in, BYTES, out, BYTES));
+}
+
+const struct work works[WORKS] = {
+    { "blocks", our_blocks, BLOCKS }, { "c-blocks", c_blocks, BLOCKS },
+    { "cbc", our_cbc, BLOCKS }, { "c-cbc", c_cbc, BLOCKS },
+    { "entry", our_entry, ENTRIES }, { "c-entry", c_entry, ENTRIES },
+    { "bytes", our_bytes, BLOCKS },
+};
+
+void make_ready(void)
+{
+    srand(1);
+    for (size_t i = 0; i < BYTES; i++)
+        in[i] = (uint8_t)rand();
+    memcpy(key, in + 16, 16);
+    memcpy(first, in + 32, 16);
+    for (int cipher = HIEROCRYPT3; cipher <= NOEKEON; cipher++)
+        yardsticks[cipher]->make_ready();
+}
+
+static void hold(int ours, int c, int cipher, int direction)
+{
+    memset(out, 0, BYTES);
+    memset(other, 0, BYTES);
+    works[ours].run(cipher, direction);
+    works[c].run(cipher, direction);
+    if (memcmp(out, other, BYTES) == 0)
+        return;
+    fprintf(stderr, "bench: cipher %d, direction %d: %s and %s give different bytes\n", cipher, direction,
+            works[ours].name, works[c].name);
+    exit(1);
+}
+
+void hold_to_each_other(void)
+{
+    for (int cipher = HIEROCRYPT3; cipher <= E2; cipher++)
+        for (int direction = ENCIPHER; direction <= DECIPHER; direction++) {
+            hold(OUR_BLOCKS, C_BLOCKS, cipher, direction);
+            hold(OUR_CBC, C_CBC, cipher, direction);
+            hold(OUR_ENTRY, C_ENTRY, cipher, direction);
+        }
+}

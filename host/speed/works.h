@@ -1,0 +1,25 @@
+/* The works that are measured, each on both sides where C has it too. */
+#ifndef WORKS_H
+#define WORKS_H
+
+#include "speed.h"
+
+/* 64 KiB in a call of `blocks`, `cbc` and `bytes`; so many calls of the entry in a row. */
+enum { BLOCKS = 4096, BYTES = 16 * BLOCKS, ENTRIES = 256 };
+
+struct work {
+    const char *name;
+    void (*run)(int cipher, int direction);
+    /* what the amounts are divided by */
+    int blocks;
+};
+
+enum { OUR_BLOCKS, C_BLOCKS, OUR_CBC, C_CBC, OUR_ENTRY, C_ENTRY, OUR_BYTES, WORKS };
+extern const struct work works[WORKS];
+
+void make_ready(void);
+
+/* Ends the program if C gives other bytes than the proved side, for the ciphers where C has the same cipher. */
+void hold_to_each_other(void);
+
+#endif
