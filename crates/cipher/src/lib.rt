@@ -18,8 +18,9 @@ pub struct SetUp {
     pub schedule: Schedule,
 }
 
-// Is the schedule bad?
-pub fn bad_schedule(s: Schedule) -> bool
+// Is the schedule bad? With its round keys lent, which are not copied then.
+pub fn bad_with(keys: &[u8; 288], s: Schedule) -> bool
+    requires { ⌜ now keys ≡ s .«round_keys» ⌝ }
     ensures { λ r. ⌜ r ≡ bad s ⌝ }
 {
     let cipher = s.cipher as u64;
@@ -30,8 +31,15 @@ pub fn bad_schedule(s: Schedule) -> bool
     if !ciphers::is_length(cipher, length) {
         return true;
     }
+    !bytes::zero_from(keys, ciphers::used(cipher, length))
+}
+
+// Is the schedule bad?
+pub fn bad_schedule(s: Schedule) -> bool
+    ensures { λ r. ⌜ r ≡ bad s ⌝ }
+{
     let keys = s.round_keys;
-    !bytes::zero_from(&keys, ciphers::used(cipher, length))
+    bad_with(&keys, s)
 }
 
 // The all-zero schedule, beside a refusal.

@@ -53,6 +53,17 @@ fn refused(answer: u8) -> Started
     Started { answer, stream }
 }
 
+// A refused piece: nothing written, and the stream as it was.
+fn not_fed(answer: u8, s: Stream) -> Fed
+    ensures { λ r. ⌜ r ≡ record { answer = answer; written = 0; next = s } ⌝ }
+{
+    Fed {
+        answer,
+        written: 0,
+        next: s,
+    }
+}
+
 impl Stream {
     // The most bytes that a stream accepts.
     pub const LIMIT: u64 = 1048576;
@@ -90,13 +101,11 @@ impl Stream {
         ensures { λ r. ⌜ (r ≡ feed self (now (piece .entry)) (length (now (out .entry))))
             × (now (out .exit) ≡ feedOut self (now (piece .entry)) (now (out .entry))) ⌝ }
     {
-        let no = state::piece_refusal(self, piece.len(), out.len());
+        let schedule = self.schedule;
+        let keys = schedule.round_keys;
+        let no = state::piece_refusal(&keys, self, piece.len(), out.len());
         if no != refusals::DONE {
-            return Fed {
-                answer: no,
-                written: 0,
-                next: self,
-            };
+            return not_fed(no, self);
         }
         let kept = (self.count % 16) as usize;
         let n = (kept + piece.len()) / 16;
@@ -107,7 +116,11 @@ impl Stream {
         }
         let old = self.held;
         let held = blocks::left_over(&old, kept, piece, 16 * n, (kept + piece.len()) % 16);
-        let schedule = self.schedule;
+        let schedule = Schedule {
+            round_keys: keys,
+            cipher: schedule.cipher,
+            key_length: schedule.key_length,
+        };
         let next = Stream {
             schedule: schedule,
             direction: self.direction,
@@ -127,7 +140,9 @@ impl Stream {
     pub fn finish(self) -> Finished
         ensures { λ r. ⌜ r ≡ finish self ⌝ }
     {
-        if state::bad_state(self) {
+        let schedule = self.schedule;
+        let keys = schedule.round_keys;
+        if state::bad_state(&keys, self) {
             return Finished {
                 answer: refusals::BAD_STATE,
                 next: self,

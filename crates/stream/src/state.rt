@@ -4,11 +4,12 @@ ghost use mathlib.Core.Path.{_≡_};
 ghost use Rattle.stream.specs.State.{badState};
 ghost use Rattle.stream.specs.Calls.{pieceRefusal};
 
-// Is the state bad?
-pub fn bad_state(s: Stream) -> bool
+// Is the state bad? Its round keys are lent, here and below, so that a call copies them once.
+pub fn bad_state(keys: &[u8; 288], s: Stream) -> bool
+    requires { ⌜ now keys ≡ s .schedule .«round_keys» ⌝ }
     ensures { λ r. ⌜ r ≡ badState s ⌝ }
 {
-    if cipher::bad_schedule(s.schedule) {
+    if cipher::bad_with(keys, s.schedule) {
         return true;
     }
     if !cipher::ciphers::is_direction(s.direction as u64) {
@@ -26,10 +27,11 @@ pub fn bad_state(s: Stream) -> bool
 }
 
 // The refusal of a piece of n bytes with that room, or 0.
-pub fn piece_refusal(s: Stream, n: usize, room: usize) -> u8
+pub fn piece_refusal(keys: &[u8; 288], s: Stream, n: usize, room: usize) -> u8
+    requires { ⌜ now keys ≡ s .schedule .«round_keys» ⌝ }
     ensures { λ r. ⌜ r ≡ pieceRefusal s n room ⌝ }
 {
-    if bad_state(s) {
+    if bad_state(keys, s) {
         return refusals::BAD_STATE;
     }
     if s.closed {

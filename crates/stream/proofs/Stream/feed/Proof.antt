@@ -27,22 +27,28 @@ held-15 c = search needs
 piece-refusal-requires : tie.Need-piece-refusal-requires
 piece-refusal-requires c κs = search needs
 
+not-fed-requires : tie.Need-not-fed-requires
+not-fed-requires c κs = search needs
+
 returns : tie.Need-returns
-returns c = piece-refused (c .before .before .before .before .args .self) (c .before .before .before .before .args .piece .now) (c .before .before .before .before .args .out .now) _ (c .before .piece-refusal .ensures) (c .if1 .taken)
+returns c =
+    let a = c .before .before .before .before .before .before .before .before .args in
+    let r = piece-refused (a .self) (a .piece .now) (a .out .now) _ (c .before .before .piece-refusal .ensures) (c .before .if1 .taken) in
+    (c .not-fed .ensures ∙ r .0, r .1)
 
 add-n : tie.Need-add-n
 add-n c = search needs
 
 run-requires : tie.Need-run-requires
 run-requires c κs =
-    let a = c .before .before .before .before .before .before .before .before .args in
+    let a = c .before .before .before .before .before .before .before .before .before .before .before .args in
     let k = accepted (a .self) (length (a .piece .now)) (length (a .out .now)) (sym (c .before .before .before .before .before .piece-refusal .ensures) ∙ c .before .before .before .before .if1 .left) in
     let f = k .fits in
     (good-length _ (good _ (k .state) .schedule), c .before .if2 .taken, omega arith, omega arith)
 
 ran : (c : tie.Joined2)
-    → Ran (c .before .before .before .before .before .before .before .args .self) (c .before .before .before .before .before .before .before .args .piece .now) (c .before .before .before .before .before .before .before .args .out .now)
-    ((c .before .before .before .before .before .before .before .args .self .count % 16 + length (c .before .before .before .before .before .before .before .args .piece .now)) / 16)
+    → Ran (c .before .before .before .before .before .before .before .before .before .before .args .self) (c .before .before .before .before .before .before .before .before .before .before .args .piece .now) (c .before .before .before .before .before .before .before .before .before .before .args .out .now)
+    ((c .before .before .before .before .before .before .before .before .before .before .args .self .count % 16 + length (c .before .before .before .before .before .before .before .before .before .before .args .piece .now)) / 16)
     (c .if2 .chain) (c .if2 .out)
 ran c =
     elim (c .if2 .came) [
@@ -60,31 +66,31 @@ add-left-over : tie.Need-add-left-over
 add-left-over c = search needs
 
 left-over-requires : tie.Need-left-over-requires
-left-over-requires c κs = let h = held-15 (c .before .before .before .before .before .before .before .before .before) in omega arith
+left-over-requires c κs = let h = held-15 (c .before .before .before .before .before .before .before .before .before .before .before .before) in omega arith
 
-add-t23 : tie.Need-add-t23
-add-t23 c =
-    let a = c .before .before .before .before .before .before .before .before .before .before .before .before .args in
-    let k = accepted (a .self) (length (a .piece .now)) (length (a .out .now)) (sym (c .before .before .before .before .before .before .before .before .before .piece-refusal .ensures) ∙ c .before .before .before .before .before .before .before .before .if1 .left) .within in
+add-t27 : tie.Need-add-t27
+add-t27 c =
+    let a = c .before .before .before .before .before .before .before .before .before .before .before .before .before .before .args in
+    let k = accepted (a .self) (length (a .piece .now)) (length (a .out .now)) (sym (c .before .before .before .before .before .before .before .before .piece-refusal .ensures) ∙ c .before .before .before .before .before .before .before .if1 .left) .within in
     omega arith
 
-mul-t21 : tie.Need-mul-t21
-mul-t21 c = search needs
+mul-t25 : tie.Need-mul-t25
+mul-t25 c = search needs
 
 same-length : tie.Need-same-length
-same-length c = elim (c .before .before .before .before .before .if2 .came) [ inl w ↦ ap length (w .5) ∙ w .2 .kept .1 .1 .0 | inr w ↦ ap length (w .1) ]
+same-length c = elim (c .before .before .before .before .if2 .came) [ inl w ↦ ap length (w .5) ∙ w .2 .kept .1 .1 .0 | inr w ↦ ap length (w .1) ]
 
 returns-2 : tie.Need-returns-2
 returns-2 c =
-    let a = c .before .before .before .before .before .before .before .before .before .before .before .before .args in
+    let a = c .before .before .before .before .before .before .before .before .before .before .before .before .before .before .args in
     let s = a .self in
     let p = a .piece .now in
     let o = a .out .now in
     let n = (s .count % 16 + length p) / 16 in
-    let z = sym (c .before .before .before .before .before .before .before .before .before .piece-refusal .ensures) ∙ c .before .before .before .before .before .before .before .before .if1 .left in
-    let r = ran (c .before .before .before .before .before) in (
+    let z = sym (c .before .before .before .before .before .before .before .before .piece-refusal .ensures) ∙ c .before .before .before .before .before .before .before .if1 .left in
+    let r = ran (c .before .before .before .before) in (
       piece-fed s p o n z (omega arith) _ _ (r .last-is)
-          (c .before .before .left-over .ensures ∙ tail-held s p o n ((s .count % 16 + length p) % 16) (held-15 (c .before .before .before .before .before .before .before .before .before .before .before .before)) (omega arith)),
+          (c .before .left-over .ensures ∙ tail-held s p o n ((s .count % 16 + length p) % 16) (held-15 (c .before .before .before .before .before .before .before .before .before .before .before .before .before .before)) (omega arith)),
       piece-put s p o n z (omega arith) _ (r .out-is),
     )
 
@@ -93,6 +99,7 @@ feed-spec =
     tie.close
     (tie.spec
     piece-refusal-requires
+    not-fed-requires
     returns
     add-n
     run-requires
@@ -100,7 +107,7 @@ feed-spec =
     mul-left-over
     add-left-over
     left-over-requires
-    add-t23
-    mul-t21
+    add-t27
+    mul-t25
     same-length
     returns-2)

@@ -17,7 +17,7 @@ returns-3 : tie.Need-returns-3
 returns-3 c = finish-10 _ (sym (c .before .before .before .before .bad-state .ensures) ∙ c .before .before .before .if1 .left) (c .before .before .if2 .left) (c .if3 .taken)
 
 returns-4 : tie.Need-returns-4
-returns-4 c = finish-0 (c .before .before .before .before .before .args .self) (sym (c .before .before .before .before .bad-state .ensures) ∙ c .before .before .before .if1 .left) (c .before .before .if2 .left) (c .if3 .left)
+returns-4 c = finish-0 (c .before .before .before .before .before .before .before .before .args .self) (sym (c .before .before .before .before .bad-state .ensures) ∙ c .before .before .before .if1 .left) (c .before .before .if2 .left) (c .if3 .left)
 
 pub finish-spec : {M : Type 1} → statement M
 finish-spec =

@@ -1,9 +1,13 @@
-use mathlib.Core.Path.{sym, _∙_}
+use mathlib.Core.Path.{sym, ap, _∙_}
+use mathlib.Core.List.{List}
+use Prim.Native.Nat.{ℕ}
+use lib.ListN.{drop}
 use borrow.Author.Tests.{not-true, not-false}
+use Rattle.cipher.specs.Schedule.{zeros}
 use Rattle.cipher.proofs.Answers.{bad-number, bad-length, bad-bytes}
 use borrow.Author.Needs.{needs}
-use Rattle.cipher.proofs.bad_schedule.Statement.{statement}
-use Rattle.cipher.proofs.bad_schedule.Tie as tie
+use Rattle.cipher.proofs.bad_with.Statement.{statement}
+use Rattle.cipher.proofs.bad_with.Tie as tie
 
 cast-cipher : tie.Need-cast-cipher
 cast-cipher c = search needs
@@ -23,22 +27,20 @@ is-length-requires c κs = search needs
 returns-2 : tie.Need-returns-2
 returns-2 c = bad-length _ (sym (c .before .before .before .is-cipher .ensures) ∙ not-false _ (c .before .before .if1 .left)) (sym (c .before .is-length .ensures) ∙ not-true _ (c .if2 .taken))
 
-slice-aggregate-zero-from : tie.Need-slice-aggregate-zero-from
-slice-aggregate-zero-from c = search needs
-
 used-requires : tie.Need-used-requires
-used-requires c κs = sym (c .before .before .before .is-length .ensures) ∙ not-false _ (c .before .before .if2 .left)
+used-requires c κs = sym (c .before .before .is-length .ensures) ∙ not-false _ (c .before .if2 .left)
 
 zero-from-requires : tie.Need-zero-from-requires
 zero-from-requires c κs = search needs
 
 returns-3 : tie.Need-returns-3
 returns-3 c =
-    bad-bytes _ (sym (c .before .before .before .before .before .before .before .is-cipher .ensures) ∙ not-false _ (c .before .before .before .before .before .before .if1 .left)) (sym (c .before .before .before .before .before .is-length .ensures) ∙ not-false _ (c .before .before .before .before .if2 .left))
-    (c .before .used .result) (c .zero-from .result) (c .before .used .ensures) (c .zero-from .ensures)
+    bad-bytes _ (sym (c .before .before .before .before .before .before .is-cipher .ensures) ∙ not-false _ (c .before .before .before .before .before .if1 .left)) (sym (c .before .before .before .before .is-length .ensures) ∙ not-false _ (c .before .before .before .if2 .left))
+    (c .before .used .result) (c .zero-from .result) (c .before .used .ensures)
+    (c .zero-from .ensures ∙ ap (λ (l : List ℕ). zeros (drop (c .before .used .result) l)) (c .before .before .before .before .before .before .before .before .before .pre))
 
-pub bad-schedule-spec : {M : Type 1} → statement M
-bad-schedule-spec =
+pub bad-with-spec : {M : Type 1} → statement M
+bad-with-spec =
     tie.close
     (tie.spec
     cast-cipher
@@ -47,7 +49,6 @@ bad-schedule-spec =
     returns
     is-length-requires
     returns-2
-    slice-aggregate-zero-from
     used-requires
     zero-from-requires
     returns-3)
