@@ -1,9 +1,10 @@
--- P^(16) and P^(32) (002, section 3.8): undone by their inverses, on 8 and on 16 bytes, and what the code does with the halves of two pieces. The equations are
--- solved over unknowns.
-use mathlib.Core.Path.{_≡_, refl, sym, ap₂, _∙_}
+-- P^(n) (002, section 3.8): undone by its inverse at every width of whole bytes, and what the code does with the halves of two pieces at the two widths in use.
+-- The equations are solved over unknowns.
+use mathlib.Core.Path.{_≡_, refl, sym, ap, ap₂, _∙_}
 use mathlib.Core.List.{List, [], _∷_, _++_}
 use Prim.Native.Nat.{ℕ, zero, suc, _+_, _*_, _/_, _%_, _<_}
-use native.Mathlib.Omega.{arith}
+use native.Mathlib.Nat.{div-lt-iff-lt-mul, div-add-mod', mod-lt}
+use lib.Arith.{digits-lt, digits-div, digits-mod}
 use lib.Pow.{pow-pos}
 use lib.Bits.{bitXor}
 use lib.ListN.{length, getD}
@@ -11,10 +12,11 @@ use Rattle.laws.specs.Places.{tab, part, quarters, joined, Each}
 use Rattle.laws.specs.Bytes.{Byte, Bytes, xorL}
 use Rattle.laws.specs.Matrix.{total, pick, bitMatrix}
 use Rattle.laws.specs.Inverse.{Inverse}
-use Rattle.laws.proofs.Places.{tab-self, each-tab, each-default}
+use Rattle.laws.proofs.Places.{length-tab, getD-tab, tab-equal, tab-self, each-tab, each-default}
 use Rattle.laws.proofs.Words.{byte-at}
-use Rattle.laws.proofs.XorLists.{xorL-bytes}
+use Rattle.laws.proofs.XorLists.{getD-xorL, xorL-bytes}
 use Rattle.laws.proofs.Rounds.{steps-keep}
+use Rattle.laws.proofs.Matrix.{total-equal}
 use Rattle.laws.proofs.Sums.{Sum, solve-list}
 use Rattle.laws.proofs.Sums.Sum.{at, zer, _⊕_}
 use Rattle.hierocrypt3.specs.Operations.{rowsP, rowsP⁻, P, P⁻, addColumns}
@@ -26,34 +28,87 @@ plus m x y = tab m (λ j. getD x j zer ⊕ getD y j zer)
 abbrev solved : ℕ → List (List ℕ) → List Sum → List Sum
 solved m rows x = joined zer m (bitMatrix (plus m) (tab m (λ j. zer)) 4 rows (quarters zer m x))
 
--- ---- there and back
-p16-undo : (x : List ℕ) → Bytes 8 x → P⁻ 2 (P 2 x) ≡ x
-unfolding P P⁻
-p16-undo x w =
-    solve-list (λ y. y) (λ y z. refl) (tab 8 (λ j. getD x j 0)) (solved 2 rowsP⁻ (solved 2 rowsP (tab 8 at))) (tab 8 at) tt ∙ sym (tab-self 8 0 x (w .long))
+-- ---- there and back at every width m: byte j of the four values goes by itself through the matrix of bits
+undo-bits : (f : ℕ → ℕ) → bitMatrix bitXor 0 4 rowsP⁻ (bitMatrix bitXor 0 4 rowsP (tab 4 f)) ≡ tab 4 f
+undo-bits f = solve-list (λ y. y) (λ y z. refl) (tab 4 f) (bitMatrix _⊕_ zer 4 rowsP⁻ (bitMatrix _⊕_ zer 4 rowsP (tab 4 at))) (tab 4 at) tt
 
-p16-redo : (x : List ℕ) → Bytes 8 x → P 2 (P⁻ 2 x) ≡ x
-unfolding P P⁻
-p16-redo x w =
-    solve-list (λ y. y) (λ y z. refl) (tab 8 (λ j. getD x j 0)) (solved 2 rowsP (solved 2 rowsP⁻ (tab 8 at))) (tab 8 at) tt ∙ sym (tab-self 8 0 x (w .long))
+redo-bits : (f : ℕ → ℕ) → bitMatrix bitXor 0 4 rowsP (bitMatrix bitXor 0 4 rowsP⁻ (tab 4 f)) ≡ tab 4 f
+redo-bits f = solve-list (λ y. y) (λ y z. refl) (tab 4 f) (bitMatrix _⊕_ zer 4 rowsP (bitMatrix _⊕_ zer 4 rowsP⁻ (tab 4 at))) (tab 4 at) tt
 
-p32-undo : (x : List ℕ) → Bytes 16 x → P⁻ 4 (P 4 x) ≡ x
-unfolding P P⁻
-p32-undo x w =
-    solve-list (λ y. y) (λ y z. refl) (tab 16 (λ j. getD x j 0)) (solved 4 rowsP⁻ (solved 4 rowsP (tab 16 at))) (tab 16 at) tt
-    ∙ sym (tab-self 16 0 x (w .long))
-
-p32-redo : (x : List ℕ) → Bytes 16 x → P 4 (P⁻ 4 x) ≡ x
-unfolding P P⁻
-p32-redo x w =
-    solve-list (λ y. y) (λ y z. refl) (tab 16 (λ j. getD x j 0)) (solved 4 rowsP (solved 4 rowsP⁻ (tab 16 at))) (tab 16 at) tt
-    ∙ sym (tab-self 16 0 x (w .long))
-
--- ---- bytes stay bytes, in four values of m bytes
-module _ (m : ℕ) (quarter : (n : ℕ) → n < 4 * m → n / m < 4) where
+module _ (m : ℕ) (some : 0 < m) where
   abbrev none : List ℕ
   none = tab m (λ j. 0)
 
+  mixed : List (List ℕ) → List ℕ → List ℕ
+  mixed rows x = joined 0 m (bitMatrix (xorL m) none 4 rows (quarters 0 m x))
+
+  -- byte j of each of the four
+  across : List ℕ → ℕ → List ℕ
+  across x j = tab 4 (λ k. getD x (k * m + j) 0)
+
+  quarter : (n : ℕ) → n < 4 * m → n / m < 4
+  quarter n h = div-lt-iff-lt-mul some .1 h
+
+  pick-at : (b : ℕ) (y : List ℕ) (j : ℕ) → j < m → getD (pick (xorL m) none b y) j 0 ≡ pick bitXor 0 b (getD y j 0)
+  pick-at zero y j h = getD-tab m (λ i. 0) j 0 h
+  pick-at (suc b) y j h = refl
+
+  total-at : (n : ℕ) (f : ℕ → List ℕ) (j : ℕ) → j < m → getD (total (xorL m) none n f) j 0 ≡ total bitXor 0 n (λ k. getD (f k) j 0)
+  total-at zero f j h = getD-tab m (λ i. 0) j 0 h
+  total-at (suc n) f j h = getD-xorL m (total (xorL m) none n f) (f n) j h ∙ ap (λ (v : ℕ). bitXor v (getD (f n) j 0)) (total-at n f j h)
+
+  quarter-at : (x : List ℕ) (k j : ℕ) → k < 4 → j < m → getD (getD (quarters 0 m x) k none) j 0 ≡ getD x (k * m + j) 0
+  quarter-at x k j hk hj =
+      ap (λ (l : List ℕ). getD l j 0) (getD-tab 4 (λ q. part 0 (q * m) m x) k none hk) ∙ getD-tab m (λ n. getD x (k * m + n) 0) j 0 hj
+
+  abbrev bitAt : List (List ℕ) → ℕ → ℕ → ℕ
+  bitAt rows i k = getD (getD rows i []) k 0
+
+  abbrev term : List (List ℕ) → List ℕ → ℕ → ℕ → List ℕ
+  term rows x i k = pick (xorL m) none (bitAt rows i k) (getD (quarters 0 m x) k none)
+
+  mixed-at : (rows : List (List ℕ)) (x : List ℕ) (i j : ℕ) → i < 4 → j < m
+      → getD (mixed rows x) (i * m + j) 0 ≡ total bitXor 0 4 (λ k. pick bitXor 0 (bitAt rows i k) (getD (across x j) k 0))
+  unfolding mixed across
+  mixed-at rows x i j hi hj =
+      let ys : List (List ℕ) = bitMatrix (xorL m) none 4 rows (quarters 0 m x) in
+      getD-tab (4 * m) (λ n. getD (getD ys (n / m) []) (n % m) 0) (i * m + j) 0 (digits-lt hi hj)
+      ∙ ap₂ (λ (p q : ℕ). getD (getD ys p []) q 0) (digits-div i hj) (digits-mod i hj)
+      ∙ ap (λ (l : List ℕ). getD l j 0) (getD-tab 4 (λ r. total (xorL m) none 4 (term rows x r)) i [] hi)
+      ∙ total-at 4 (term rows x i) j hj
+      ∙ total-equal bitXor 0 4 (λ k. getD (term rows x i k) j 0) (λ k. pick bitXor 0 (bitAt rows i k) (getD (across x j) k 0))
+      (λ k hk. pick-at (bitAt rows i k) (getD (quarters 0 m x) k none) j hj
+      ∙ ap (pick bitXor 0 (bitAt rows i k)) (quarter-at x k j hk hj ∙ sym (getD-tab 4 (λ l. getD x (l * m + j) 0) k 0 hk)))
+
+  across-mixed : (rows : List (List ℕ)) (x : List ℕ) (j : ℕ) → j < m → across (mixed rows x) j ≡ bitMatrix bitXor 0 4 rows (across x j)
+  unfolding across
+  across-mixed rows x j hj =
+      tab-equal 4 (λ k. getD (mixed rows x) (k * m + j) 0) (λ i. total bitXor 0 4 (λ k. pick bitXor 0 (bitAt rows i k) (getD (across x j) k 0))) 0
+      (λ i hi. mixed-at rows x i j hi hj)
+
+  by-across : (x y : List ℕ) → length x ≡ 4 * m → length y ≡ 4 * m → ((j : ℕ) → j < m → across x j ≡ across y j) → x ≡ y
+  unfolding across
+  by-across x y lx ly same =
+      tab-self (4 * m) 0 x lx ∙ tab-equal (4 * m) (λ n. getD x n 0) (λ n. getD y n 0) 0 there ∙ sym (tab-self (4 * m) 0 y ly)
+    where
+      seen : (l : List ℕ) (n : ℕ) → n < 4 * m → getD l n 0 ≡ getD (across l (n % m)) (n / m) 0
+      seen l n h = ap (λ (k : ℕ). getD l k 0) (sym (div-add-mod' n m)) ∙ sym (getD-tab 4 (λ k. getD l (k * m + n % m) 0) (n / m) 0 (quarter n h))
+
+      there : (n : ℕ) → n < 4 * m → getD x n 0 ≡ getD y n 0
+      there n h = seen x n h ∙ ap (λ (l : List ℕ). getD l (n / m) 0) (same (n % m) (mod-lt n some)) ∙ sym (seen y n h)
+
+  mixed-long : (rows : List (List ℕ)) (x : List ℕ) → length (mixed rows x) ≡ 4 * m
+  unfolding mixed
+  mixed-long rows x = length-tab (4 * m) (λ n. getD (getD (bitMatrix (xorL m) none 4 rows (quarters 0 m x)) (n / m) []) (n % m) 0)
+
+  through : (rows back : List (List ℕ)) → ((f : ℕ → ℕ) → bitMatrix bitXor 0 4 back (bitMatrix bitXor 0 4 rows (tab 4 f)) ≡ tab 4 f)
+      → (x : List ℕ) → Bytes (4 * m) x → mixed back (mixed rows x) ≡ x
+  unfolding across
+  through rows back undone x w =
+      by-across (mixed back (mixed rows x)) x (mixed-long back (mixed rows x)) (w .long)
+      (λ j h. across-mixed back (mixed rows x) j h ∙ ap (bitMatrix bitXor 0 4 back) (across-mixed rows x j h) ∙ undone (λ k. getD x (k * m + j) 0))
+
+  -- bytes stay bytes
   none-bytes : Bytes m none
   none-bytes = each-tab Byte 0 m (λ j. 0) (λ j h. pow-pos 8)
 
@@ -61,44 +116,32 @@ module _ (m : ℕ) (quarter : (n : ℕ) → n < 4 * m → n / m < 4) where
   pick-bytes zero x w = none-bytes
   pick-bytes (suc b) x w = w
 
-  abbrev term : List (List ℕ) → List ℕ → ℕ → ℕ → List ℕ
-  term rows x i j = pick (xorL m) none (getD (getD rows i []) j 0) (getD (quarters 0 m x) j none)
-
   sum-bytes : (k : ℕ) (rows : List (List ℕ)) (x : List ℕ) → Bytes k x → (i : ℕ) → Bytes m (total (xorL m) none 4 (term rows x i))
   sum-bytes k rows x w i =
       steps-keep (Bytes m) 4 (λ j y. xorL m y (term rows x i j))
       (λ j y h v. xorL-bytes m y (term rows x i j) v
-      (pick-bytes (getD (getD rows i []) j 0) (getD (quarters 0 m x) j none)
+      (pick-bytes (bitAt rows i j) (getD (quarters 0 m x) j none)
       (each-default [] none 4 (quarters 0 m x)
       (each-tab (Bytes m) [] 4 (λ q. part 0 (q * m) m x) (λ q l. each-tab Byte 0 m (λ n. getD x (q * m + n) 0) (λ n o. byte-at k x (q * m + n) w))) j h)))
       none none-bytes
 
-  matrix-bytes : (k : ℕ) (rows : List (List ℕ)) (x : List ℕ) → Bytes k x → Bytes (4 * m) (joined 0 m (bitMatrix (xorL m) none 4 rows (quarters 0 m x)))
-  matrix-bytes k rows x w =
+  mixed-bytes : (rows : List (List ℕ)) (x : List ℕ) → Bytes (4 * m) x → Bytes (4 * m) (mixed rows x)
+  unfolding mixed
+  mixed-bytes rows x w =
       let ys : List (List ℕ) = bitMatrix (xorL m) none 4 rows (quarters 0 m x) in
-      let each-column : Each (Bytes m) [] 4 ys = each-tab (Bytes m) [] 4 (λ i. total (xorL m) none 4 (term rows x i)) (λ i h. sum-bytes k rows x w i) in
+      let each-column : Each (Bytes m) [] 4 ys = each-tab (Bytes m) [] 4 (λ i. total (xorL m) none 4 (term rows x i)) (λ i h. sum-bytes (4 * m) rows x w i) in
       each-tab Byte 0 (4 * m) (λ n. getD (getD ys (n / m) []) (n % m) 0)
       (λ n h. byte-at m (getD ys (n / m) []) (n % m) (each-column .each (n / m) (quarter n h)))
 
-pub P16-inverse : Inverse (Bytes 8) (P 2) (P⁻ 2)
-unfolding P P⁻
-P16-inverse =
-    record {
-      on = matrix-bytes 2 (λ n h. omega arith) 8 rowsP;
-      off = matrix-bytes 2 (λ n h. omega arith) 8 rowsP⁻;
-      undo = p16-undo;
-      redo = p16-redo;
-    }
-
-pub P32-inverse : Inverse (Bytes 16) (P 4) (P⁻ 4)
-unfolding P P⁻
-P32-inverse =
-    record {
-      on = matrix-bytes 4 (λ n h. omega arith) 16 rowsP;
-      off = matrix-bytes 4 (λ n h. omega arith) 16 rowsP⁻;
-      undo = p32-undo;
-      redo = p32-redo;
-    }
+  pub P-inverse : Inverse (Bytes (4 * m)) (P m) (P⁻ m)
+  unfolding P P⁻ mixed
+  P-inverse =
+      record {
+        on = mixed-bytes rowsP;
+        off = mixed-bytes rowsP⁻;
+        undo = through rowsP rowsP⁻ undo-bits;
+        redo = through rowsP⁻ rowsP redo-bits;
+      }
 
 -- ---- as the code does it
 pub p16-second : (x : List ℕ)

@@ -2,6 +2,7 @@
 use mathlib.Core.Path.{_≡_, sym, ap, ap₂, _∙_}
 use mathlib.Core.List.{List, _++_}
 use Prim.Native.Nat.{ℕ, _+_}
+use lib.Dec.{lit<}
 use lib.ListN.{getD}
 use Rattle.laws.specs.Places.{layer, part}
 use Rattle.laws.specs.Bytes.{Byte, Bytes}
@@ -14,7 +15,7 @@ use Rattle.hierocrypt3.specs.declared.Intermediate.{Intermediate}
 use Rattle.hierocrypt3.specs.Keys.{_⊕_, σ0, σ, σ⁻, W1, W2}
 use Rattle.hierocrypt3.proofs.Sbox.{s-inverse}
 use Rattle.hierocrypt3.proofs.Halves.{M5E-inverse}
-use Rattle.hierocrypt3.proofs.PFunction.{P16-inverse, P32-inverse}
+use Rattle.hierocrypt3.proofs.PFunction.{P-inverse}
 
 pub record Pieces (z : Intermediate) : Type 0 where
   pub p1 : Bytes 8 (z .z1)
@@ -39,7 +40,7 @@ module _ (x y : List ℕ) (v : Bytes 8 x) (w : Bytes 8 y) where
 -- ---- Fσ
 pub Fσ-bytes : (x : List ℕ) → Bytes 8 x → Bytes 8 (Fσ x)
 unfolding Fσ
-Fσ-bytes x w = P16-inverse .on (layer 8 0 (λ j. s) x) (each-tab Byte 0 8 (λ j. s (getD x j 0)) (λ j h. s-inverse .on (getD x j 0) (w .each j h)))
+Fσ-bytes x w = P-inverse 2 (lit< tt) .on (layer 8 0 (λ j. s) x) (each-tab Byte 0 8 (λ j. s (getD x j 0)) (λ j h. s-inverse .on (getD x j 0) (w .each j h)))
 
 feistel-bytes : (x y z : List ℕ) → Bytes 8 x → Bytes 8 y → Bytes 8 z → Bytes 8 (x ⊕ Fσ (y ⊕ z))
 feistel-bytes x y z u v w = xorL-bytes 8 x (Fσ (y ⊕ z)) u (Fσ-bytes (y ⊕ z) (xorL-bytes 8 y z v w))
@@ -65,7 +66,7 @@ module _ (g : List ℕ) (h : Bytes 8 g) (z : Intermediate) (w : Pieces z) where
   both-bytes = bytes-append 8 8 (z .z3) (z .z4) (w .p3) (w .p4)
 
   mixed-bytes : Bytes 16 (P 4 both)
-  mixed-bytes = P32-inverse .on both both-bytes
+  mixed-bytes = P-inverse 4 (lit< tt) .on both both-bytes
 
   pub σ-pieces : Pieces (σ g z)
   unfolding σ
@@ -83,7 +84,7 @@ module _ (g : List ℕ) (h : Bytes 8 g) (z : Intermediate) (w : Pieces z) where
   unmixed = P⁻ 4 (W1 g z ++ W2 z)
 
   unmixed-bytes : Bytes 16 unmixed
-  unmixed-bytes = P32-inverse .off (W1 g z ++ W2 z) (bytes-append 8 8 (W1 g z) (W2 z) W1-bytes W2-bytes)
+  unmixed-bytes = P-inverse 4 (lit< tt) .off (W1 g z ++ W2 z) (bytes-append 8 8 (W1 g z) (W2 z) W1-bytes W2-bytes)
 
   pub σ⁻-pieces : Pieces (σ⁻ g z)
   unfolding σ⁻
@@ -106,7 +107,7 @@ module _ (g : List ℕ) (h : Bytes 8 g) (z : Intermediate) (w : Pieces z) where
       let u1 : MB3 ((M5E m1 ⊕ g) ⊕ g) ≡ m1 = ap MB3 (xorL-cancel-r 8 (M5E m1) g (M5E-inverse .on m1 v1 .long)) ∙ M5E-inverse .undo m1 v1 in
       let u2 : MB3 (M5E m2) ≡ m2 = M5E-inverse .undo m2 v2 in
       let x : P⁻ 4 (MB3 ((M5E m1 ⊕ g) ⊕ g) ++ MB3 (M5E m2)) ≡ both =
-      (λ i. P⁻ 4 (u1 i ++ u2 i)) ∙ ap (P⁻ 4) (pieces-joined (P 4 both) mixed-bytes) ∙ P32-inverse .undo both both-bytes in
+      (λ i. P⁻ 4 (u1 i ++ u2 i)) ∙ ap (P⁻ 4) (pieces-joined (P 4 both) mixed-bytes) ∙ P-inverse 4 (lit< tt) .undo both both-bytes in
       λ i. record {
         z1 = xorL-cancel-r 8 (z .z1) (Fσ (z .z2 ⊕ (M5E m1 ⊕ g))) (w .p1 .long) i;
         z2 = z .z2;
@@ -119,7 +120,7 @@ module _ (g : List ℕ) (h : Bytes 8 g) (z : Intermediate) (w : Pieces z) where
   σ-redo =
       let x : P 4 (part 0 0 8 unmixed ++ part 0 8 8 unmixed) ≡ W1 g z ++ W2 z =
       ap (P 4) (pieces-joined unmixed unmixed-bytes)
-      ∙ P32-inverse .redo (W1 g z ++ W2 z) (bytes-append 8 8 (W1 g z) (W2 z) W1-bytes W2-bytes) in
+      ∙ P-inverse 4 (lit< tt) .redo (W1 g z ++ W2 z) (bytes-append 8 8 (W1 g z) (W2 z) W1-bytes W2-bytes) in
       let y3 : M5E (part 0 0 8 (P 4 (part 0 0 8 unmixed ++ part 0 8 8 unmixed))) ⊕ g ≡ z .z3 =
       ap (λ (l : List ℕ). M5E l ⊕ g) (ap (part 0 0 8) x ∙ first-of (W1 g z) (W2 z) W1-bytes W2-bytes)
       ∙ ap (λ (l : List ℕ). l ⊕ g) (M5E-inverse .redo (z .z3 ⊕ g) (xorL-bytes 8 (z .z3) g (w .p3) h))
