@@ -30,7 +30,7 @@ pub struct Halves {
 }
 
 // Which of k1 .. k16 stands in place i.
-pub fn number(back: bool, i: usize) -> usize
+fn number(back: bool, i: usize) -> usize
     requires { ⌜ (0 < i) × (i ≤ 16) ⌝ }
     ensures { λ r. ⌜ (r ≡ number back i) × (0 < r) × (r ≤ 16) ⌝ }
 {
@@ -44,7 +44,7 @@ pub fn number(back: bool, i: usize) -> usize
 }
 
 // The word of four key bytes.
-pub fn key_word(keys: &[u8; 288], at: usize) -> u32
+fn key_word(keys: &[u8; 288], at: usize) -> u32
     requires { ⌜ at + 4 ≤ 288 ⌝ }
     ensures { λ r. ⌜ WordFrom (now (keys .entry)) at r ⌝ }
 {
@@ -52,7 +52,7 @@ pub fn key_word(keys: &[u8; 288], at: usize) -> u32
 }
 
 // Key number i, as words.
-pub fn key(keys: &[u8; 288], i: usize) -> Words
+fn key(keys: &[u8; 288], i: usize) -> Words
     requires { ⌜ (0 < i) × (i ≤ 16) ⌝ }
     ensures { λ r. ⌜ (wordList r ≡ wordsOf 4 (roundKey (now (keys .entry)) i)) × (Bytes 16 (roundKey (now (keys .entry)) i)) ⌝ }
 {
@@ -66,7 +66,7 @@ pub fn key(keys: &[u8; 288], i: usize) -> Words
 }
 
 // BP, from words to halves.
-pub fn bp(w: Words) -> Halves
+fn bp(w: Words) -> Halves
     ensures { λ r. ⌜ r ≡ halves (BP (bytesOf (wordList w))) ⌝ }
 {
     let l = [
@@ -93,7 +93,7 @@ pub fn bp(w: Words) -> Halves
 }
 
 // BP's inverse, from halves to words.
-pub fn bp_inverse(x: Halves) -> Words
+fn bp_inverse(x: Halves) -> Words
     ensures { λ r. ⌜ wordList r ≡ wordsOf 4 (BP⁻ (x .l ++ x .r)) ⌝ }
 {
     let l = x.l;
@@ -107,7 +107,7 @@ pub fn bp_inverse(x: Halves) -> Words
 }
 
 // BRL: one byte to the left.
-pub fn brl(x: [u8; 8]) -> [u8; 8]
+fn brl(x: [u8; 8]) -> [u8; 8]
     ensures { λ r. ⌜ r ≡ BRL x ⌝ }
 {
     [x[1], x[2], x[3], x[4], x[5], x[6], x[7], x[0]]
@@ -170,7 +170,7 @@ pub fn add(x: [u8; 8], y: [u8; 8]) -> [u8; 8]
 }
 
 // X ⊕ the 8 key bytes from `at` on.
-pub fn add_key(x: [u8; 8], keys: &[u8; 288], at: usize) -> [u8; 8]
+fn add_key(x: [u8; 8], keys: &[u8; 288], at: usize) -> [u8; 8]
     requires { ⌜ at + 8 ≤ 288 ⌝ }
     ensures { λ r. ⌜ r ≡ xorL 8 x (part 0 at 8 (now (keys .entry))) ⌝ }
 {
@@ -187,7 +187,7 @@ pub fn add_key(x: [u8; 8], keys: &[u8; 288], at: usize) -> [u8; 8]
 }
 
 // F(x, k), for key number i.
-pub fn f(table: &[u8; 256], keys: &[u8; 288], i: usize, x: [u8; 8]) -> [u8; 8]
+fn f(table: &[u8; 256], keys: &[u8; 288], i: usize, x: [u8; 8]) -> [u8; 8]
     requires { ⌜ (now table ≡ sTable) × (0 < i) × (i ≤ 16) ⌝ }
     ensures { λ r. ⌜ r ≡ F x (roundKey (now (keys .entry)) i) ⌝ }
 {
@@ -198,7 +198,7 @@ pub fn f(table: &[u8; 256], keys: &[u8; 288], i: usize, x: [u8; 8]) -> [u8; 8]
 }
 
 // 1. M := BP((M ⊕ k13) ⊗ k14).
-pub fn first(keys: &[u8; 288], back: bool, block: [u8; 16]) -> Halves
+fn first(keys: &[u8; 288], back: bool, block: [u8; 16]) -> Halves
     ensures { λ r. ⌜ r ≡ halves (first (λ i. roundKey (now (keys .entry)) (number back i)) block) ⌝ }
 {
     let k13 = key(keys, number(back, 13));
@@ -207,7 +207,7 @@ pub fn first(keys: &[u8; 288], back: bool, block: [u8; 16]) -> Halves
 }
 
 // 2. The twelve rounds, with the halves left in their places after the last.
-pub fn rounds(table: &[u8; 256], keys: &[u8; 288], back: bool, m: Halves) -> Halves
+fn rounds(table: &[u8; 256], keys: &[u8; 288], back: bool, m: Halves) -> Halves
     requires { ⌜ now table ≡ sTable ⌝ }
     ensures { λ r. ⌜ (r .l, r .r) ≡ feistel F (xorL 8) (tab 12 (λ i. roundKey (now (keys .entry)) (number back (suc i)))) (m .l, m .r) ⌝ }
 {
@@ -224,7 +224,7 @@ pub fn rounds(table: &[u8; 256], keys: &[u8; 288], back: bool, m: Halves) -> Hal
 }
 
 // 3. C := (BP⁻(M) ⊘ k15) ⊕ k16.
-pub fn last(keys: &[u8; 288], back: bool, m: Halves) -> [u8; 16]
+fn last(keys: &[u8; 288], back: bool, m: Halves) -> [u8; 16]
     ensures { λ r. ⌜ r ≡ last (λ i. roundKey (now (keys .entry)) (number back i)) (m .l ++ m .r) ⌝ }
 {
     let k15 = key(keys, number(back, 15));

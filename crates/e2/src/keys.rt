@@ -15,7 +15,7 @@ use crate::substitution::table;
 const CONSTANT: [u8; 8] = [0x01, 0x23, 0x45, 0x67, 0x89, 0xab, 0xcd, 0xef];
 
 // 8 bytes of the key.
-pub fn sub_block(key: &[u8], at: usize) -> [u8; 8]
+fn sub_block(key: &[u8], at: usize) -> [u8; 8]
     requires { ⌜ at + 8 ≤ length (now key) ⌝ }
     ensures { λ r. ⌜ r ≡ part 0 at 8 (now (key .entry)) ⌝ }
 {
@@ -32,7 +32,7 @@ pub fn sub_block(key: &[u8], at: usize) -> [u8; 8]
 }
 
 // K2: of the key, or S three times on the constant.
-pub fn k2(table: &[u8; 256], key: &[u8]) -> [u8; 8]
+fn k2(table: &[u8; 256], key: &[u8]) -> [u8; 8]
     requires { ⌜ now table ≡ sTable ⌝ }
     requires { ⌜ KeyLength (length (now key)) ⌝ }
     ensures { λ r. ⌜ r ≡ part 0 16 8 (fullKey (now (key .entry))) ⌝ }
@@ -44,7 +44,7 @@ pub fn k2(table: &[u8; 256], key: &[u8]) -> [u8; 8]
 }
 
 // K3: of the key, or S four times on the constant.
-pub fn k3(table: &[u8; 256], key: &[u8]) -> [u8; 8]
+fn k3(table: &[u8; 256], key: &[u8]) -> [u8; 8]
     requires { ⌜ now table ≡ sTable ⌝ }
     requires { ⌜ KeyLength (length (now key)) ⌝ }
     ensures { λ r. ⌜ r ≡ part 0 24 8 (fullKey (now (key .entry))) ⌝ }
@@ -56,7 +56,7 @@ pub fn k3(table: &[u8; 256], key: &[u8]) -> [u8; 8]
 }
 
 // K = (K0, K1, K2, K3).
-pub fn full_key(table: &[u8; 256], key: &[u8]) -> [[u8; 8]; 4]
+fn full_key(table: &[u8; 256], key: &[u8]) -> [[u8; 8]; 4]
     requires { ⌜ now table ≡ sTable ⌝ }
     requires { ⌜ KeyLength (length (now key)) ⌝ }
     ensures { λ r. ⌜ r ≡ quarters 0 8 (fullKey (now (key .entry))) ⌝ }
@@ -70,7 +70,7 @@ pub fn full_key(table: &[u8; 256], key: &[u8]) -> [[u8; 8]; 4]
 }
 
 // The Y of G(X, U): Yi := P(S(Xi)).
-pub fn g_y(table: &[u8; 256], x: [[u8; 8]; 4]) -> [[u8; 8]; 4]
+fn g_y(table: &[u8; 256], x: [[u8; 8]; 4]) -> [[u8; 8]; 4]
     requires { ⌜ now table ≡ sTable ⌝ }
     ensures { λ r. ⌜ r ≡ Y x ⌝ }
 {
@@ -83,7 +83,7 @@ pub fn g_y(table: &[u8; 256], x: [[u8; 8]; 4]) -> [[u8; 8]; 4]
 }
 
 // The L of G(X, U), from its Y: L0 := Y0 ⊕ P(S(U)), Li := P(S(L(i-1))) ⊕ Yi. Its V is L3.
-pub fn g_l(table: &[u8; 256], y: [[u8; 8]; 4], u: [u8; 8]) -> [[u8; 8]; 4]
+fn g_l(table: &[u8; 256], y: [[u8; 8]; 4], u: [u8; 8]) -> [[u8; 8]; 4]
     requires { ⌜ now table ≡ sTable ⌝ }
     ensures { λ r. ⌜ r ≡ L y u ⌝ }
 {
@@ -98,7 +98,7 @@ pub fn g_l(table: &[u8; 256], y: [[u8; 8]; 4], u: [u8; 8]) -> [[u8; 8]; 4]
 }
 
 // q with the four of l put in from place 4i on.
-pub fn put(q: [[u8; 8]; 32], i: usize, l: [[u8; 8]; 4]) -> [[u8; 8]; 32]
+fn put(q: [[u8; 8]; 32], i: usize, l: [[u8; 8]; 4]) -> [[u8; 8]; 32]
     requires { ⌜ i < 8 ⌝ }
     ensures { λ r. ⌜ r ≡ set (set (set (set q (i * 4) (getD l 0 [])) (i * 4 + 1) (getD l 1 [])) (i * 4 + 2) (getD l 2 [])) (i * 4 + 3) (getD l 3 []) ⌝ }
 {
@@ -112,7 +112,7 @@ pub fn put(q: [[u8; 8]; 32], i: usize, l: [[u8; 8]; 4]) -> [[u8; 8]; 32]
 }
 
 // q0 .. q31: G on K and the constant, and then eight times on the Y and the V that came of it.
-pub fn q_all(table: &[u8; 256], key: &[u8]) -> [[u8; 8]; 32]
+fn q_all(table: &[u8; 256], key: &[u8]) -> [[u8; 8]; 32]
     requires { ⌜ now table ≡ sTable ⌝ }
     requires { ⌜ KeyLength (length (now key)) ⌝ }
     ensures { λ r. ⌜ r ≡ tab 32 (q (now (key .entry))) ⌝ }
@@ -134,7 +134,7 @@ pub fn q_all(table: &[u8; 256], key: &[u8]) -> [[u8; 8]; 32]
 }
 
 // Byte n of k1 .. k16, and 0 behind them.
-pub fn key_byte(q: [[u8; 8]; 32], n: usize) -> u8
+fn key_byte(q: [[u8; 8]; 32], n: usize) -> u8
     ensures { λ r. ⌜ (n < 256 → r ≡ getD (getD q (n % 16 * 2 + n / 16 % 2) []) (n / 32) 0) × (256 ≤ n → r ≡ 0) ⌝ }
 {
     if n < 256 {

@@ -34,22 +34,6 @@ pub fn decipher_with(table: &[u8; 256], keys: &[u8; 288], block: [u8; 16]) -> [u
     block::cipher(table, keys, true, block)
 }
 
-// Enciphers one block, with a table of its own.
-pub fn encipher(keys: &[u8; 288], block: [u8; 16]) -> [u8; 16]
-    ensures { λ r. ⌜ r ≡ encipher (now (keys .entry)) block ⌝ }
-{
-    let t = table();
-    encipher_with(&t, keys, block)
-}
-
-// Deciphers one block, with a table of its own.
-pub fn decipher(keys: &[u8; 288], block: [u8; 16]) -> [u8; 16]
-    ensures { λ r. ⌜ r ≡ decipher (now (keys .entry)) block ⌝ }
-{
-    let t = table();
-    decipher_with(&t, keys, block)
-}
-
 // The round keys of a key of 16, 24 or 32 bytes: k1 .. k16, and zeros behind them.
 pub fn round_keys(key: &[u8]) -> [u8; 288]
     requires { ⌜ KeyLength (length (now key)) ⌝ }

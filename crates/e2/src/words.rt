@@ -97,14 +97,14 @@ pub fn xor(x: Words, y: Words) -> Words
 }
 
 // The product modulo 2^32.
-pub fn product(x: u32, y: u32) -> u32
+fn product(x: u32, y: u32) -> u32
     ensures { λ r. ⌜ r ≡ x * y % 2 ^ 32 ⌝ }
 {
     ((x as u64) * (y as u64) % 4294967296) as u32
 }
 
 // z to the power 2^31 - 1 modulo 2^32, 31 ones in binary: each turn takes one of them in, and squares.
-pub fn inverse(z: u32) -> u32
+fn inverse(z: u32) -> u32
     ensures { λ r. ⌜ r ≡ inverse z ⌝ }
 {
     let mut r: u32 = 1;

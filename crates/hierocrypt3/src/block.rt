@@ -479,23 +479,3 @@ pub fn decipher_with(
 {
     bytes(decryption(unsbox, table, keys, length / 8 + 3, columns(block)))
 }
-
-// One block enciphered.
-pub fn encipher(keys: &[u8; 288], length: usize, block: [u8; 16]) -> [u8; 16]
-    requires { ⌜ KeyLength length ⌝ }
-    ensures { λ r. ⌜ r ≡ encipher length (now (keys .entry)) block ⌝ }
-{
-    let sbox = tables::sbox();
-    let table = tables::t_table();
-    encipher_with(&sbox, &table, keys, length, block)
-}
-
-// One block deciphered.
-pub fn decipher(keys: &[u8; 288], length: usize, block: [u8; 16]) -> [u8; 16]
-    requires { ⌜ KeyLength length ⌝ }
-    ensures { λ r. ⌜ r ≡ decipher length (now (keys .entry)) block ⌝ }
-{
-    let unsbox = inverse_tables::unsbox();
-    let table = inverse_tables::u_table();
-    decipher_with(&unsbox, &table, keys, length, block)
-}

@@ -88,7 +88,7 @@ fn round_of(k: Quad, p: Quad) -> Quad
 }
 
 // The sixteen rounds and the last θ, under a working key.
-pub fn work(k: Quad, p: Quad) -> Quad
+fn work(k: Quad, p: Quad) -> Quad
     ensures { λ r. ⌜ r ≡ cipher S k p ⌝ }
 {
     let mut q = p;
@@ -106,7 +106,7 @@ fn word_of(a: u8, b: u8, c: u8, d: u8) -> u32
     (a as u32) * 16777216 + (b as u32) * 65536 + (c as u32) * 256 + (d as u32)
 }
 
-pub fn load_block(b: [u8; 16]) -> Quad
+fn load_block(b: [u8; 16]) -> Quad
     ensures { λ r. ⌜ r ≡ load b ⌝ }
 {
     Quad {
@@ -165,14 +165,14 @@ fn store_block(p: Quad) -> [u8; 16]
 }
 
 // The working key to encipher with: K.
-pub fn encipher_key(keys: &[u8; 288]) -> Quad
+fn encipher_key(keys: &[u8; 288]) -> Quad
     ensures { λ r. ⌜ r ≡ load (now (keys .entry)) ⌝ }
 {
     load_block(key_of(keys))
 }
 
 // The working key to decipher with: θ(0, K).
-pub fn decipher_key(keys: &[u8; 288]) -> Quad
+fn decipher_key(keys: &[u8; 288]) -> Quad
     ensures { λ r. ⌜ r ≡ θ S zeroKey (load (now (keys .entry))) ⌝ }
 {
     let zero = Quad {
@@ -185,7 +185,7 @@ pub fn decipher_key(keys: &[u8; 288]) -> Quad
 }
 
 // One block under a working key.
-pub fn block_with(k: Quad, block: [u8; 16]) -> [u8; 16]
+fn block_with(k: Quad, block: [u8; 16]) -> [u8; 16]
     ensures { λ r. ⌜ r ≡ store (cipher S k (load block)) ⌝ }
 {
     store_block(work(k, load_block(block)))
