@@ -34,8 +34,11 @@ abbrev pub turnedSum : ℕ → ℕ → ℕ → ℕ → ℕ
 turnedSum x y z w = bitXor (bitXor (bitXor x (rol 32 24 y)) (rol 32 16 z)) (rol 32 8 w)
 
 -- ---- MDS_H a row at a time: byte k of each column makes row k
+abbrev pub rowWord : List (List ℕ) → ℕ → ℕ
+rowWord x k = word (getD (getD x 0 []) k 0) (getD (getD x 1 []) k 0) (getD (getD x 2 []) k 0) (getD (getD x 3 []) k 0)
+
 abbrev pub rowWords : List (List ℕ) → List ℕ
-rowWords x = tab 4 (λ k. word (getD (getD x 0 []) k 0) (getD (getD x 1 []) k 0) (getD (getD x 2 []) k 0) (getD (getD x 3 []) k 0))
+rowWords x = tab 4 (rowWord x)
 
 -- a row of bits times four values
 abbrev pub bitRow : List ℕ → List ℕ → ℕ

@@ -15,7 +15,7 @@ ghost use Rattle.laws.specs.Matrix.{pick};
 ghost use Rattle.hierocrypt3.specs.Operations.{mdsL, mdsL⁻, MDSH, MDSH⁻};
 ghost use Rattle.hierocrypt3.specs.Tables.{sTable, sTable⁻, tTable, uTable};
 ghost use Rattle.hierocrypt3.specs.Block.{KeyLength, addKey, firstHalf, XS, XS⁻, roundKey, encryption, decryption, encipher, decipher};
-ghost use Rattle.hierocrypt3.specs.Columns.{sColumn, sColumn⁻, keyColumn, xsColumn, xsColumn⁻, turnedSum, bitRow, rowWords, roundAt, roundAt⁻};
+ghost use Rattle.hierocrypt3.specs.Columns.{sColumn, sColumn⁻, keyColumn, xsColumn, xsColumn⁻, turnedSum, bitRow, rowWord, rowWords, roundAt, roundAt⁻};
 
 // A word turned n places to the left.
 fn turned(x: u32, n: u32) -> u32
@@ -244,20 +244,22 @@ fn word_of(a: u8, b: u8, c: u8, d: u8) -> u32
     (a as u32) * 16777216 + (b as u32) * 65536 + (c as u32) * 256 + (d as u32)
 }
 
-// The block's rows as words: byte k of each column.
-fn rows(x: [[u8; 4]; 4]) -> [u32; 4]
-    ensures { λ r. ⌜ r ≡ rowWords x ⌝ }
+// Row k of the block as a word: byte k of each column.
+fn row(x: [[u8; 4]; 4], k: usize) -> u32
+    requires { ⌜ k < 4 ⌝ }
+    ensures { λ r. ⌜ r ≡ rowWord x k ⌝ }
 {
     let x0 = x[0];
     let x1 = x[1];
     let x2 = x[2];
     let x3 = x[3];
-    [
-        word_of(x0[0], x1[0], x2[0], x3[0]),
-        word_of(x0[1], x1[1], x2[1], x3[1]),
-        word_of(x0[2], x1[2], x2[2], x3[2]),
-        word_of(x0[3], x1[3], x2[3], x3[3]),
-    ]
+    word_of(x0[k], x1[k], x2[k], x3[k])
+}
+
+fn rows(x: [[u8; 4]; 4]) -> [u32; 4]
+    ensures { λ r. ⌜ r ≡ rowWords x ⌝ }
+{
+    [row(x, 0), row(x, 1), row(x, 2), row(x, 3)]
 }
 
 // Row i of four matrices times the block's rows, each product turned one column further.
@@ -280,15 +282,23 @@ fn turned_rows(
     )
 }
 
+// Column j of a block that is given by its rows.
+fn column_of(y0: [u8; 4], y1: [u8; 4], y2: [u8; 4], y3: [u8; 4], j: usize) -> [u8; 4]
+    requires { ⌜ j < 4 ⌝ }
+    ensures { λ r. ⌜ r ≡ getD y0 j 0 ∷ getD y1 j 0 ∷ getD y2 j 0 ∷ getD y3 j 0 ∷ [] ⌝ }
+{
+    [y0[j], y1[j], y2[j], y3[j]]
+}
+
 // Four rows as four columns.
 fn transposed(y0: [u8; 4], y1: [u8; 4], y2: [u8; 4], y3: [u8; 4]) -> [[u8; 4]; 4]
     ensures { λ r. ⌜ r ≡ tab 4 (λ j. getD y0 j 0 ∷ getD y1 j 0 ∷ getD y2 j 0 ∷ getD y3 j 0 ∷ []) ⌝ }
 {
     [
-        [y0[0], y1[0], y2[0], y3[0]],
-        [y0[1], y1[1], y2[1], y3[1]],
-        [y0[2], y1[2], y2[2], y3[2]],
-        [y0[3], y1[3], y2[3], y3[3]],
+        column_of(y0, y1, y2, y3, 0),
+        column_of(y0, y1, y2, y3, 1),
+        column_of(y0, y1, y2, y3, 2),
+        column_of(y0, y1, y2, y3, 3),
     ]
 }
 
