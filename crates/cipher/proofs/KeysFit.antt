@@ -11,10 +11,10 @@ use borrow.Author.Tests.{eqb-true}
 use Rattle.laws.specs.Choice.{choose}
 use Rattle.laws.proofs.Places.{length-tab}
 use Rattle.hierocrypt3.specs.Block.{T}
-use Rattle.hierocrypt3.specs.Keys.{K}
-use Rattle.hierocrypt3.specs.Keys as hierocrypt3-keys
-use Rattle.e2.specs.Keys.{subkey}
-use Rattle.e2.specs.Keys as e2-keys
+use Rattle.hierocrypt3_keys.specs.Keys.{K}
+use Rattle.hierocrypt3_keys.specs.Keys as hierocrypt3-keys
+use Rattle.e2_keys.specs.Keys.{subkey}
+use Rattle.e2_keys.specs.Keys as e2-keys
 use Rattle.cipher.specs.Ciphers.{Cipher, number, isCipher, isLength, member}
 use Rattle.cipher.specs.Schedule.{bad}
 use Rattle.cipher.specs.Calls.{schedule}

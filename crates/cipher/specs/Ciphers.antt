@@ -5,12 +5,12 @@ use mathlib.Core.List.{List, [], _∷_}
 use Prim.Native.Nat.{ℕ, _+_, _*_}
 use lib.Dec.{eqb}
 use Rattle.laws.specs.Choice.{choose}
-use Rattle.hierocrypt3.specs.Tables as hierocrypt3-tables
+use Rattle.hierocrypt3_tables.specs.Tables as hierocrypt3-tables
 use Rattle.hierocrypt3.specs.Block as hierocrypt3-block
-use Rattle.hierocrypt3.specs.Keys as hierocrypt3-keys
-use Rattle.e2.specs.Steps as e2-steps
+use Rattle.hierocrypt3_keys.specs.Keys as hierocrypt3-keys
+use Rattle.e2_steps.specs.Steps as e2-steps
 use Rattle.e2.specs.Block as e2-block
-use Rattle.e2.specs.Keys as e2-keys
+use Rattle.e2_keys.specs.Keys as e2-keys
 use Rattle.noekeon.specs.Noekeon as noekeon-block
 
 pub record Cipher : Type 0 where

@@ -3,8 +3,8 @@ ghost use mathlib.Core.Path.{_≡_};
 ghost use mathlib.Core.Bool.{true};
 ghost use mathlib.Core.List.{[], _∷_};
 ghost use lib.ListN.{length};
-ghost use Rattle.hierocrypt3.specs.Tables.{sTable, sTable⁻, tTable, uTable};
-ghost use Rattle.e2.specs.Steps as e2-steps;
+ghost use Rattle.hierocrypt3_tables.specs.Tables.{sTable, sTable⁻, tTable, uTable};
+ghost use Rattle.e2_steps.specs.Steps as e2-steps;
 ghost use Rattle.cipher.specs.Ciphers.{number, isCipher, isLength, isDirection, member, Forward, Backward};
 ghost use Rattle.cipher.specs.Schedule.{padded};
 
@@ -78,10 +78,10 @@ pub fn round_keys(cipher: u64, key: &[u8]) -> [u8; 288]
     ensures { λ r. ⌜ r ≡ padded (number cipher .roundKeys (now (key .entry))) ⌝ }
 {
     if cipher == 1 {
-        return hierocrypt3::keys::round_keys(key);
+        return hierocrypt3_keys::round_keys(key);
     }
     if cipher == 2 {
-        return e2::round_keys(key);
+        return e2_keys::round_keys(key);
     }
     noekeon::round_keys(key)
 }
@@ -135,9 +135,9 @@ pub fn encipher(keys: &[u8; 288], cipher: u8, len: u8, block: [u8; 16]) -> [u8; 
     requires { ⌜ isLength cipher len ≡ true ⌝ }
     ensures { λ r. ⌜ r ≡ number cipher .encipher len (now (keys .entry)) block ⌝ }
 {
-    let sbox = hierocrypt3::tables::sbox();
-    let table = hierocrypt3::tables::t_table();
-    let e2_sbox = e2::table();
+    let sbox = hierocrypt3_tables::forward::sbox();
+    let table = hierocrypt3_tables::forward::t_table();
+    let e2_sbox = e2_steps::substitution::table();
     encipher_with(&sbox, &table, &e2_sbox, keys, cipher, len, block)
 }
 
@@ -146,8 +146,8 @@ pub fn decipher(keys: &[u8; 288], cipher: u8, len: u8, block: [u8; 16]) -> [u8; 
     requires { ⌜ isLength cipher len ≡ true ⌝ }
     ensures { λ r. ⌜ r ≡ number cipher .decipher len (now (keys .entry)) block ⌝ }
 {
-    let unsbox = hierocrypt3::inverse_tables::unsbox();
-    let table = hierocrypt3::inverse_tables::u_table();
-    let e2_sbox = e2::table();
+    let unsbox = hierocrypt3_tables::inverse::unsbox();
+    let table = hierocrypt3_tables::inverse::u_table();
+    let e2_sbox = e2_steps::substitution::table();
     decipher_with(&unsbox, &table, &e2_sbox, keys, cipher, len, block)
 }

@@ -11,8 +11,8 @@ use Rattle.laws.specs.Bytes.{Bytes, Word, xorL, word, wordsOf, bytesOf}
 use Rattle.laws.proofs.Places.{tab-self, each-tab}
 use Rattle.laws.proofs.Words.{Words, each-words, words-append}
 use Rattle.laws.proofs.XorWords.{wordsOf-xor, bytesOf-xor}
-use Rattle.e2.specs.Steps.{inverse, timesWords, overWords, times, over, BP⁻}
-use Rattle.e2.specs.Layout.{WordFrom}
+use Rattle.e2_steps.specs.Steps.{inverse, timesWords, overWords, times, over, BP⁻}
+use Rattle.e2_steps.specs.Layout.{WordFrom}
 
 -- ---- (M ⊕ a) ⊗ b, and (M ⊘ a) ⊕ b, with `v` and `w` the words of a and b
 module _ (m a b v w : List ℕ) (ev : v ≡ wordsOf 4 a) (ew : w ≡ wordsOf 4 b) where

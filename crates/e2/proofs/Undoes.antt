@@ -8,7 +8,7 @@ use Rattle.laws.specs.Places.{tab, part, Each}
 use Rattle.laws.specs.Bytes.{Bytes, Word, xorL, wordsOf}
 use Rattle.laws.specs.Rounds.{reversed, feistel}
 use Rattle.laws.specs.Inverse.{Inverse}
-use Rattle.laws.proofs.Words.{bytes-append}
+use Rattle.laws.proofs.Words.{bytes-append, part-bytes}
 use Rattle.laws.proofs.XorLists.{xorL-bytes, xorL-cancel-r}
 use Rattle.laws.proofs.OddInverse.{or-one-odd, odd-product}
 use Rattle.laws.proofs.Feistel.{feistel-keeps, feistel-undo}
@@ -16,9 +16,9 @@ use Rattle.laws.proofs.Inverse.{flip, and-then, at-each, xored-list}
 use Rattle.laws.proofs.Parts.{left-half, right-half, joined-halves}
 use Rattle.laws.proofs.OnWords.{on-words}
 use Rattle.laws.proofs.Permuted.{permuted}
-use Rattle.e2.specs.Steps.{inverse, timesWords, overWords, times, over, fromBP, fromBP⁻, BP, BP⁻, F}
-use Rattle.e2.specs.Block.{first, rounds, last, cipher, reordered, roundKey, encipher, decipher}
-use Rattle.e2.proofs.StayBytes.{F-bytes, part-bytes}
+use Rattle.e2_steps.specs.Steps.{inverse, timesWords, overWords, times, over, fromBP, fromBP⁻, BP, BP⁻}
+use Rattle.e2.specs.Block.{F, first, rounds, last, cipher, reordered, roundKey, encipher, decipher}
+use Rattle.e2.proofs.RoundFunction.{F-bytes}
 
 -- ---- ⊗ and ⊘ by any Y, on words and on bytes
 pub words-undo : (y : List ℕ) → Inverse (Each (Word 32) 0 4) (λ x. timesWords x y) (λ x. overWords x y)

@@ -7,7 +7,11 @@ use Rattle.laws.specs.Choice.{choose}
 use Rattle.laws.specs.Places.{tab, part}
 use Rattle.laws.specs.Bytes.{xorL}
 use Rattle.laws.specs.Rounds.{feistel}
-use Rattle.e2.specs.Steps.{times, over, BP, BP⁻, F}
+use Rattle.e2_steps.specs.Steps.{times, over, BP, BP⁻, BRL, S, P}
+
+-- F(R, k), with kl and kr the left and the right half of k
+unfoldable pub F : List ℕ → List ℕ → List ℕ
+F r k = BRL (S (xorL 8 (P (S (xorL 8 r (part 0 0 8 k)))) (part 0 8 8 k)))
 
 -- 1. M := BP((M ⊕ k13) ⊗ k14)
 unfoldable pub first : (ℕ → List ℕ) → List ℕ → List ℕ

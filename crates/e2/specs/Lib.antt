@@ -1,4 +1,2 @@
-pub mod Steps
 pub mod Block
-pub mod Keys
 pub mod Layout

@@ -15,8 +15,8 @@ use Rattle.laws.specs.Bytes.{Byte, Bytes}
 use Rattle.laws.specs.Inverse.{Inverse}
 use Rattle.laws.proofs.Places.{each-tab}
 use Rattle.laws.proofs.Words.{Words, word-at, words-each}
-use Rattle.hierocrypt3.proofs.KeyBytes as hierocrypt3-bytes
-use Rattle.e2.proofs.KeysAreBytes as e2-bytes
+use Rattle.hierocrypt3_keys.proofs.KeyBytes as hierocrypt3-bytes
+use Rattle.e2_keys.proofs.KeysAreBytes as e2-bytes
 use Rattle.cipher.specs.Ciphers.{Cipher, number, isCipher, isLength, isDirection}
 use Rattle.cipher.specs.Schedule.{padded, enciphered, deciphered}
 use Rattle.cipher.specs.Calls.{schedule}

@@ -1,16 +1,7 @@
 pub mod Circulant
-pub mod Logs
-pub mod Sbox
-pub mod Entries
 pub mod MdsL
 pub mod MdsH
 pub mod RowsH
 pub mod Steps
 pub mod Numbered
 pub mod Undone
-pub mod PFunction
-pub mod KeyLengths
-pub mod Laid
-pub mod Halves
-pub mod Sigma
-pub mod KeyBytes

@@ -1,16 +1,14 @@
--- mds_L (002, section 3.7): what the turned sum of the tables' words gives, and that it and its inverse undo one another.
+-- mds_L and its inverse (002, section 3.7) as the code takes them: the turned sum of the tables' words.
 use mathlib.Core.Path.{_≡_, refl}
 use mathlib.Core.List.{List, [], _∷_}
 use Prim.Native.Nat.{ℕ}
 use lib.Dec.{lit<}
 use lib.ListN.{getD}
-use Rattle.laws.specs.Bytes.{Bytes, bytesOf}
+use Rattle.laws.specs.Bytes.{bytesOf}
 use Rattle.laws.specs.Field.{product}
-use Rattle.laws.specs.Inverse.{Inverse}
-use Rattle.laws.proofs.Field.{product-lt, product-xor-r}
-use Rattle.laws.proofs.Matrix.{matrix-inverse}
-use Rattle.hierocrypt3.specs.Operations.{p, s, rowsL, rowsL⁻, mdsL, mdsL⁻}
-use Rattle.hierocrypt3.specs.Tables.{t, u}
+use Rattle.laws.proofs.Field.{product-lt}
+use Rattle.hierocrypt3_tables.specs.Operations.{p, s, mdsL, mdsL⁻}
+use Rattle.hierocrypt3_tables.specs.Tables.{t, u}
 use Rattle.hierocrypt3.specs.Columns.{sColumn, turnedSum}
 use Rattle.hierocrypt3.proofs.Circulant.{turned-bytes}
 
@@ -29,8 +27,3 @@ mdsL⁻-turned x =
     (λ y. product-lt p 0x82 y refl (lit< tt)) (λ y. product-lt p 0xf6 y refl (lit< tt))
     (λ y. product-lt p 0x34 y refl (lit< tt)) (λ y. product-lt p 0xc4 y refl (lit< tt))
     (getD x 0 0) (getD x 1 0) (getD x 2 0) (getD x 3 0)
-
-pub mdsL-inverse : Inverse (Bytes 4) mdsL mdsL⁻
-unfolding mdsL mdsL⁻ product
-mdsL-inverse =
-    matrix-inverse 8 4 (product p) (λ c x y hx hy. product-xor-r p c x y) (λ c x hc hx. product-lt p c x refl hc) rowsL rowsL⁻ tt tt tt tt

@@ -11,10 +11,11 @@ use Rattle.laws.specs.Inverse.{Inverse}
 use Rattle.laws.proofs.Places.{tab-self, each-tab}
 use Rattle.laws.proofs.Words.{byte-at}
 use Rattle.laws.proofs.Inverse.{and-then, rounds, at-each, xored, through}
-use Rattle.hierocrypt3.specs.Operations.{s, s⁻, S, S⁻, mdsL, mdsL⁻, MDSL, MDSL⁻}
+use Rattle.hierocrypt3_tables.specs.Operations.{s, s⁻, mdsL, mdsL⁻}
+use Rattle.hierocrypt3.specs.Operations.{S, S⁻, MDSL, MDSL⁻}
 use Rattle.hierocrypt3.specs.Block.{T, addKey, firstHalf, secondHalf, roundKey, XS, XS⁻, ρ, ρ⁻, encryption, decryption, encipher, decipher}
-use Rattle.hierocrypt3.proofs.Sbox.{s-inverse}
-use Rattle.hierocrypt3.proofs.MdsL.{mdsL-inverse}
+use Rattle.hierocrypt3_tables.proofs.Sbox.{s-inverse}
+use Rattle.hierocrypt3_tables.proofs.MdsL.{mdsL-inverse}
 use Rattle.hierocrypt3.proofs.MdsH.{Block, block-columns, entry, mdsH-inverse}
 
 -- ---- the steps

@@ -9,7 +9,8 @@ use Rattle.laws.specs.Places.{tab, layer}
 use Rattle.laws.specs.Bytes.{word}
 use Rattle.laws.specs.Turn.{rol}
 use Rattle.laws.specs.Matrix.{total, pick}
-use Rattle.hierocrypt3.specs.Operations.{s, s⁻, mdsL, mdsL⁻, MDSH⁻}
+use Rattle.hierocrypt3_tables.specs.Operations.{s, s⁻, mdsL, mdsL⁻}
+use Rattle.hierocrypt3.specs.Operations.{MDSH⁻}
 use Rattle.hierocrypt3.specs.Block.{XS, XS⁻, ρ, roundKey}
 
 -- ---- XS on one column

@@ -1,42 +1,13 @@
 -- Hierocrypt-3's operations: 002, section 3, in its names; 01 ('Hierocrypt-3') where its print is broken. A block is four columns of four bytes.
-use mathlib.Core.List.{List, [], _∷_, _++_, map}
-use Prim.Native.Nat.{ℕ, _+_, _-_, _*_, _/_, _%_, _^_}
+-- s and mds_L (sections 3.6 and 3.7) are defined in crates/hierocrypt3_tables.
+use mathlib.Core.List.{List, [], _∷_, _++_}
+use Prim.Native.Nat.{ℕ}
 use lib.Bits.{bitXor}
 use lib.ListN.{getD}
 use Rattle.laws.specs.Places.{tab, layer, part, quarters, joined}
 use Rattle.laws.specs.Bytes.{xorL}
 use Rattle.laws.specs.Matrix.{matrix, bitMatrix}
-use Rattle.laws.specs.Field.{product, power}
-
--- the field of z^8 + z^6 + z^5 + z + 1
-abbrev pub p : ℕ
-p = 0x163
-
--- ---- s (section 3.6): permute the bits, power 247, xor 07; and its inverse
--- bit i of a byte, bit 1 the highest
-abbrev pub bit : ℕ → ℕ → ℕ
-bit x i = x / 2 ^ (8 - i) % 2
-
--- the byte of these bits, the highest first
-abbrev pub fromBits : ℕ → List ℕ → ℕ
-fromBits high [] = high
-fromBits high (b ∷ bs) = fromBits (high * 2 + b) bs
-
--- bit i of the new byte is that bit of x
-abbrev pub bits : List ℕ → ℕ → ℕ
-bits places x = fromBits 0 (map (bit x) places)
-
-unfoldable pub permuteBits : ℕ → ℕ
-permuteBits = bits (3 ∷ 7 ∷ 5 ∷ 8 ∷ 6 ∷ 2 ∷ 4 ∷ 1 ∷ [])
-
-unfoldable pub permuteBits⁻ : ℕ → ℕ
-permuteBits⁻ = bits (8 ∷ 6 ∷ 1 ∷ 7 ∷ 3 ∷ 5 ∷ 2 ∷ 4 ∷ [])
-
-unfoldable pub s : ℕ → ℕ
-s x = bitXor (power p (permuteBits x) 247) 0x07
-
-unfoldable pub s⁻ : ℕ → ℕ
-s⁻ y = permuteBits⁻ (power p (bitXor y 0x07) 223)
+use Rattle.hierocrypt3_tables.specs.Operations.{s, s⁻, mdsL, mdsL⁻}
 
 -- ---- S (section 3.4)
 unfoldable pub S : List (List ℕ) → List (List ℕ)
@@ -45,30 +16,7 @@ S = layer 4 [] (λ i. layer 4 0 (λ j. s))
 unfoldable pub S⁻ : List (List ℕ) → List (List ℕ)
 S⁻ = layer 4 [] (λ i. layer 4 0 (λ j. s⁻))
 
--- ---- mds_L (section 3.7) and MDS_L (section 3.5)
-abbrev pub rowsL : List (List ℕ)
-rowsL =
-    (0xc4 ∷ 0x65 ∷ 0xc8 ∷ 0x8b ∷ [])
-    ∷ (0x8b ∷ 0xc4 ∷ 0x65 ∷ 0xc8 ∷ [])
-    ∷ (0xc8 ∷ 0x8b ∷ 0xc4 ∷ 0x65 ∷ [])
-    ∷ (0x65 ∷ 0xc8 ∷ 0x8b ∷ 0xc4 ∷ [])
-    ∷ []
-
--- the inverse's first row is that of 000
-abbrev pub rowsL⁻ : List (List ℕ)
-rowsL⁻ =
-    (0x82 ∷ 0xc4 ∷ 0x34 ∷ 0xf6 ∷ [])
-    ∷ (0xf6 ∷ 0x82 ∷ 0xc4 ∷ 0x34 ∷ [])
-    ∷ (0x34 ∷ 0xf6 ∷ 0x82 ∷ 0xc4 ∷ [])
-    ∷ (0xc4 ∷ 0x34 ∷ 0xf6 ∷ 0x82 ∷ [])
-    ∷ []
-
-unfoldable pub mdsL : List ℕ → List ℕ
-mdsL = matrix bitXor 0 0 (product p) 4 rowsL
-
-unfoldable pub mdsL⁻ : List ℕ → List ℕ
-mdsL⁻ = matrix bitXor 0 0 (product p) 4 rowsL⁻
-
+-- ---- MDS_L (section 3.5)
 unfoldable pub MDSL : List (List ℕ) → List (List ℕ)
 MDSL = layer 4 [] (λ i. mdsL)
 
@@ -111,37 +59,3 @@ MDSH = onColumns bitXor 0 rowsH
 
 unfoldable pub MDSH⁻ : List (List ℕ) → List (List ℕ)
 MDSH⁻ = onColumns bitXor 0 rowsH⁻
-
--- ---- P^(n) (section 3.8), on four values of m bytes, n = 8 m; and its inverse
-abbrev pub rowsP : List (List ℕ)
-rowsP = (1 ∷ 0 ∷ 1 ∷ 0 ∷ []) ∷ (0 ∷ 1 ∷ 0 ∷ 1 ∷ []) ∷ (0 ∷ 1 ∷ 1 ∷ 1 ∷ []) ∷ (1 ∷ 0 ∷ 1 ∷ 1 ∷ []) ∷ []
-
-abbrev pub rowsP⁻ : List (List ℕ)
-rowsP⁻ = (1 ∷ 1 ∷ 1 ∷ 0 ∷ []) ∷ (1 ∷ 1 ∷ 0 ∷ 1 ∷ []) ∷ (0 ∷ 1 ∷ 1 ∷ 0 ∷ []) ∷ (1 ∷ 0 ∷ 0 ∷ 1 ∷ []) ∷ []
-
-abbrev onQuarters : ℕ → List (List ℕ) → List ℕ → List ℕ
-onQuarters m rows x = joined 0 m (bitMatrix (xorL m) (tab m (λ j. 0)) 4 rows (quarters 0 m x))
-
-unfoldable pub P : ℕ → List ℕ → List ℕ
-P m x = onQuarters m rowsP x
-
-unfoldable pub P⁻ : ℕ → List ℕ → List ℕ
-P⁻ m x = onQuarters m rowsP⁻ x
-
--- ---- M5E (section 3.9), MB3 (section 3.10), on the two halves of eight bytes
-abbrev onHalves : List (List ℕ) → List (List ℕ) → List ℕ → List ℕ
-onHalves m n x = bitMatrix bitXor 0 4 m (part 0 0 4 x) ++ bitMatrix bitXor 0 4 n (part 0 4 4 x)
-
-unfoldable pub M5E : List ℕ → List ℕ
-M5E = onHalves a c
-
--- the inverse of c
-abbrev pub c⁻ : List (List ℕ)
-c⁻ = (1 ∷ 1 ∷ 0 ∷ 0 ∷ []) ∷ (0 ∷ 1 ∷ 1 ∷ 0 ∷ []) ∷ (1 ∷ 0 ∷ 1 ∷ 1 ∷ []) ∷ (1 ∷ 0 ∷ 0 ∷ 1 ∷ []) ∷ []
-
-unfoldable pub MB3 : List ℕ → List ℕ
-MB3 = onHalves d c⁻
-
--- ---- Fσ (section 3.11)
-unfoldable pub Fσ : List ℕ → List ℕ
-Fσ x = P 2 (layer 8 0 (λ j. s) x)

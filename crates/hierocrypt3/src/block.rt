@@ -1,6 +1,6 @@
 // One block of Hierocrypt-3 both ways: 002, sections 2.1, 2.2 and 3.1 to 3.7, on four columns of four bytes by value, with the tables and the round keys lent.
-use crate::inverse_tables;
-use crate::tables;
+use hierocrypt3_tables::forward;
+use hierocrypt3_tables::inverse;
 ghost use mathlib.Core.Path.{_≡_};
 ghost use mathlib.Core.List.{[], _∷_};
 ghost use Prim.Native.Nat.{_+_, _-_, _*_, _/_, _≤_, _<_};
@@ -12,8 +12,9 @@ ghost use Rattle.laws.specs.Places.{tab, part, quarters, joined};
 ghost use Rattle.laws.specs.Bytes.{word, bytesOf};
 ghost use Rattle.laws.specs.Turn.{rol};
 ghost use Rattle.laws.specs.Matrix.{pick};
-ghost use Rattle.hierocrypt3.specs.Operations.{mdsL, mdsL⁻, MDSH, MDSH⁻};
-ghost use Rattle.hierocrypt3.specs.Tables.{sTable, sTable⁻, tTable, uTable};
+ghost use Rattle.hierocrypt3_tables.specs.Operations.{mdsL, mdsL⁻};
+ghost use Rattle.hierocrypt3.specs.Operations.{MDSH, MDSH⁻};
+ghost use Rattle.hierocrypt3_tables.specs.Tables.{sTable, sTable⁻, tTable, uTable};
 ghost use Rattle.hierocrypt3.specs.Block.{KeyLength, addKey, firstHalf, XS, XS⁻, roundKey, encryption, decryption, encipher, decipher};
 ghost use Rattle.hierocrypt3.specs.Columns.{sColumn, sColumn⁻, keyColumn, xsColumn, xsColumn⁻, turnedSum, bitRow, rowWord, rowWords, roundAt, roundAt⁻};
 
@@ -50,10 +51,10 @@ fn mds_l_of_s(table: &[u32; 256], x: [u8; 4]) -> [u8; 4]
     ensures { λ r. ⌜ r ≡ mdsL (sColumn x) ⌝ }
 {
     turned_sum(
-        tables::t_at(table, x[0]),
-        tables::t_at(table, x[1]),
-        tables::t_at(table, x[2]),
-        tables::t_at(table, x[3]),
+        forward::t_at(table, x[0]),
+        forward::t_at(table, x[1]),
+        forward::t_at(table, x[2]),
+        forward::t_at(table, x[3]),
     )
 }
 
@@ -63,10 +64,10 @@ fn mds_l_inverse(table: &[u32; 256], x: [u8; 4]) -> [u8; 4]
     ensures { λ r. ⌜ r ≡ mdsL⁻ x ⌝ }
 {
     turned_sum(
-        inverse_tables::u_at(table, x[0]),
-        inverse_tables::u_at(table, x[1]),
-        inverse_tables::u_at(table, x[2]),
-        inverse_tables::u_at(table, x[3]),
+        inverse::u_at(table, x[0]),
+        inverse::u_at(table, x[1]),
+        inverse::u_at(table, x[2]),
+        inverse::u_at(table, x[3]),
     )
 }
 
@@ -76,10 +77,10 @@ pub fn s_column(sbox: &[u8; 256], x: [u8; 4]) -> [u8; 4]
     ensures { λ r. ⌜ r ≡ sColumn x ⌝ }
 {
     [
-        tables::s_at(sbox, x[0]),
-        tables::s_at(sbox, x[1]),
-        tables::s_at(sbox, x[2]),
-        tables::s_at(sbox, x[3]),
+        forward::s_at(sbox, x[0]),
+        forward::s_at(sbox, x[1]),
+        forward::s_at(sbox, x[2]),
+        forward::s_at(sbox, x[3]),
     ]
 }
 
@@ -89,10 +90,10 @@ fn s_column_inverse(unsbox: &[u8; 256], x: [u8; 4]) -> [u8; 4]
     ensures { λ r. ⌜ r ≡ sColumn⁻ x ⌝ }
 {
     [
-        inverse_tables::s_inverse_at(unsbox, x[0]),
-        inverse_tables::s_inverse_at(unsbox, x[1]),
-        inverse_tables::s_inverse_at(unsbox, x[2]),
-        inverse_tables::s_inverse_at(unsbox, x[3]),
+        inverse::s_inverse_at(unsbox, x[0]),
+        inverse::s_inverse_at(unsbox, x[1]),
+        inverse::s_inverse_at(unsbox, x[2]),
+        inverse::s_inverse_at(unsbox, x[3]),
     ]
 }
 
@@ -306,12 +307,15 @@ fn transposed(y0: [u8; 4], y1: [u8; 4], y2: [u8; 4], y3: [u8; 4]) -> [[u8; 4]; 4
 fn mds_h(x: [[u8; 4]; 4]) -> [[u8; 4]; 4]
     ensures { λ r. ⌜ r ≡ MDSH x ⌝ }
 {
+    let a = A;
+    let b = B;
+    let c = C;
     let w = rows(x);
     transposed(
-        turned_rows(A, C, B, A, 0, w),
-        turned_rows(A, C, B, A, 1, w),
-        turned_rows(A, C, B, A, 2, w),
-        turned_rows(A, C, B, A, 3, w),
+        turned_rows(a, c, b, a, 0, w),
+        turned_rows(a, c, b, a, 1, w),
+        turned_rows(a, c, b, a, 2, w),
+        turned_rows(a, c, b, a, 3, w),
     )
 }
 
@@ -319,12 +323,15 @@ fn mds_h(x: [[u8; 4]; 4]) -> [[u8; 4]; 4]
 fn mds_h_inverse(x: [[u8; 4]; 4]) -> [[u8; 4]; 4]
     ensures { λ r. ⌜ r ≡ MDSH⁻ x ⌝ }
 {
+    let c = C;
+    let d = D;
+    let e = E;
     let w = rows(x);
     transposed(
-        turned_rows(D, E, C, C, 0, w),
-        turned_rows(D, E, C, C, 1, w),
-        turned_rows(D, E, C, C, 2, w),
-        turned_rows(D, E, C, C, 3, w),
+        turned_rows(d, e, c, c, 0, w),
+        turned_rows(d, e, c, c, 1, w),
+        turned_rows(d, e, c, c, 2, w),
+        turned_rows(d, e, c, c, 3, w),
     )
 }
 

@@ -9,10 +9,10 @@ use lib.Dec.{T, ltb, ltb→lt}
 use lib.Pow.{pow-pos}
 use lib.ListN.{length, getD, take, drop, length-append, length-drop}
 use lib.Seq.{length-take-le}
-use Rattle.laws.specs.Places.{tab, Each}
+use Rattle.laws.specs.Places.{tab, part, Each}
 use Rattle.laws.specs.Bytes.{Word, Byte, Bytes}
 use Rattle.laws.proofs.Test.{both, both-left, both-right}
-use Rattle.laws.proofs.Places.{each-head, each-tail}
+use Rattle.laws.proofs.Places.{each-head, each-tail, each-tab}
 
 abbrev pub Words : ℕ → List ℕ → Type 0
 Words w [] = Unit {0}
@@ -38,6 +38,9 @@ pub byte-at : (n : ℕ) (xs : List ℕ) (i : ℕ) → Bytes n xs → Byte (getD 
 byte-at n xs i h = word-at 8 xs i (words-each 8 n xs h)
 
 -- ---- parts
+pub part-bytes : (n from m : ℕ) (xs : List ℕ) → Bytes n xs → Bytes m (part 0 from m xs)
+part-bytes n from m xs h = each-tab Byte 0 m (λ j. getD xs (from + j) 0) (λ j l. byte-at n xs (from + j) h)
+
 pub words-take : (w n : ℕ) (xs : List ℕ) → Words w xs → Words w (take n xs)
 words-take w zero xs h = tt
 words-take w (suc n) [] h = tt

@@ -5,8 +5,9 @@ use Prim.Native.Nat.{ℕ}
 use Rattle.laws.specs.Places.{tab}
 use Rattle.noekeon.specs.Noekeon.{S, θ, γ, zeroKey}
 use Rattle.noekeon.specs.declared.Quad.{Quad}
-use Rattle.e2.specs.Steps as e2
-use Rattle.hierocrypt3.specs.Operations as hierocrypt3
+use Rattle.e2_steps.specs.Steps as e2
+use Rattle.hierocrypt3_tables.specs.Operations as hierocrypt3
+use Rattle.hierocrypt3_keys.specs.Operations as hierocrypt3-keys
 
 abbrev quad : ℕ → ℕ → ℕ → ℕ → Quad
 quad a b c d = record { p0 = a; p1 = b; p2 = c; p3 = d }
@@ -25,7 +26,7 @@ cases =
     ∷ (e2.BP (tab 16 (λ j. j)), 0 ∷ 5 ∷ 10 ∷ 15 ∷ 4 ∷ 9 ∷ 14 ∷ 3 ∷ 8 ∷ 13 ∷ 2 ∷ 7 ∷ 12 ∷ 1 ∷ 6 ∷ 11 ∷ [])
     ∷ (e2.P (1 ∷ 0 ∷ 0 ∷ 0 ∷ 0 ∷ 0 ∷ 0 ∷ 0 ∷ []), 0 ∷ 1 ∷ 1 ∷ 1 ∷ 1 ∷ 1 ∷ 0 ∷ 1 ∷ [])
     ∷ (e2.P (0 ∷ 0 ∷ 0 ∷ 0 ∷ 0 ∷ 0 ∷ 0 ∷ 1 ∷ []), 0 ∷ 1 ∷ 1 ∷ 1 ∷ 0 ∷ 0 ∷ 1 ∷ 1 ∷ [])
-    ∷ (hierocrypt3.P 1 (1 ∷ 2 ∷ 4 ∷ 8 ∷ []), 5 ∷ 10 ∷ 14 ∷ 13 ∷ [])
+    ∷ (hierocrypt3-keys.P 1 (1 ∷ 2 ∷ 4 ∷ 8 ∷ []), 5 ∷ 10 ∷ 14 ∷ 13 ∷ [])
     ∷ (hierocrypt3.mdsL (0x01 ∷ 0 ∷ 0 ∷ 0 ∷ []), 0xc4 ∷ 0x8b ∷ 0xc8 ∷ 0x65 ∷ [])
     ∷ (words (γ (quad 0 0 0 0)), 0xffffffff ∷ 0xffffffff ∷ 0xffffffff ∷ 0 ∷ [])
     ∷ (words (θ S zeroKey (quad 1 0 0 0)), 1 ∷ 0x101 ∷ 0 ∷ 0x101 ∷ [])

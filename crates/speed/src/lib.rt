@@ -90,10 +90,10 @@ pub extern "C" fn tlilcueyoh_speed_blocks(
     if !cipher::ciphers::is_length(number as u64, len as usize) {
         return 2;
     }
-    let e2_sbox = e2::table();
+    let e2_sbox = e2_steps::substitution::table();
     if direction == 1 {
-        let sbox = hierocrypt3::tables::sbox();
-        let table = hierocrypt3::tables::t_table();
+        let sbox = hierocrypt3_tables::forward::sbox();
+        let table = hierocrypt3_tables::forward::t_table();
         encipher_all(
             &sbox,
             &table,
@@ -107,8 +107,8 @@ pub extern "C" fn tlilcueyoh_speed_blocks(
         );
         return 0;
     }
-    let unsbox = hierocrypt3::inverse_tables::unsbox();
-    let table = hierocrypt3::inverse_tables::u_table();
+    let unsbox = hierocrypt3_tables::inverse::unsbox();
+    let table = hierocrypt3_tables::inverse::u_table();
     decipher_all(
         &unsbox,
         &table,

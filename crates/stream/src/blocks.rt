@@ -198,11 +198,11 @@ pub fn run(s: Stream, piece: &[u8], out: &mut [u8], n: usize) -> [u8; 16]
         × (16 * n ≤ s .count % 16 + length (now piece)) × (16 * n ≤ length (now out)) ⌝ }
     ensures { λ r. ⌜ Ran s (now (piece .entry)) (now (out .entry)) n r (now (out .exit)) ⌝ }
 {
-    let sbox = hierocrypt3::tables::sbox();
-    let t_table = hierocrypt3::tables::t_table();
-    let unsbox = hierocrypt3::inverse_tables::unsbox();
-    let u_table = hierocrypt3::inverse_tables::u_table();
-    let e2_sbox = e2::table();
+    let sbox = hierocrypt3_tables::forward::sbox();
+    let t_table = hierocrypt3_tables::forward::t_table();
+    let unsbox = hierocrypt3_tables::inverse::unsbox();
+    let u_table = hierocrypt3_tables::inverse::u_table();
+    let e2_sbox = e2_steps::substitution::table();
     run_with(
         &sbox,
         &t_table,

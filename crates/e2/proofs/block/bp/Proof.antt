@@ -1,7 +1,7 @@
 -- `block::bp`: each byte comes from the place that BP says.
 use mathlib.Core.List.{[], _∷_}
 use borrow.Author.Needs.{needs}
-use Rattle.e2.specs.Steps.{BP}
+use Rattle.e2_steps.specs.Steps.{BP}
 use Rattle.e2.proofs.block.bp.Statement.{statement}
 use Rattle.e2.proofs.block.bp.Tie as tie
 

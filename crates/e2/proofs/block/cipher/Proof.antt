@@ -9,7 +9,7 @@ use Rattle.laws.specs.Places.{tab}
 use Rattle.laws.specs.Rounds.{feistel}
 use Rattle.e2.specs.Block.{first, rounds, last, cipher, number, roundKey}
 use Rattle.e2.specs.Layout.{halves}
-use Rattle.e2.specs.Steps.{F}
+use Rattle.e2.specs.Block.{F}
 use Rattle.e2.specs.declared.block.Halves.{Halves}
 use Rattle.e2.proofs.block.cipher.Statement.{statement}
 use Rattle.e2.proofs.block.cipher.Tie as tie

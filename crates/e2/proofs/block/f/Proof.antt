@@ -6,7 +6,7 @@ use denote.Ref.{now}
 use borrow.Author.Needs.{needs}
 use Rattle.laws.specs.Bytes.{xorL}
 use Rattle.laws.specs.Places.{part}
-use Rattle.e2.specs.Steps.{BRL, S, P}
+use Rattle.e2_steps.specs.Steps.{BRL, S, P}
 use Rattle.e2.proofs.RoundFunction.{F-at}
 use Rattle.e2.proofs.block.f.Statement.{statement}
 use Rattle.e2.proofs.block.f.Tie as tie

@@ -7,8 +7,9 @@ use borrow.Author.Needs.{needs}
 use Rattle.laws.specs.Bytes.{xorL}
 use Rattle.laws.proofs.Known.{bytes-known}
 use Rattle.e2.specs.Block.{first, roundKey}
-use Rattle.e2.specs.Layout.{wordList, halves}
-use Rattle.e2.specs.Steps.{times, BP}
+use Rattle.e2_steps.specs.Layout.{wordList}
+use Rattle.e2.specs.Layout.{halves}
+use Rattle.e2_steps.specs.Steps.{times, BP}
 use Rattle.e2.proofs.OfWords.{first-of-words}
 use Rattle.e2.proofs.block.first.Statement.{statement}
 use Rattle.e2.proofs.block.first.Tie as tie

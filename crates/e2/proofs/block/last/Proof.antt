@@ -6,8 +6,8 @@ use denote.Ref.{now}
 use borrow.Author.Needs.{needs}
 use Rattle.laws.specs.Bytes.{xorL}
 use Rattle.e2.specs.Block.{last, roundKey}
-use Rattle.e2.specs.Layout.{wordList}
-use Rattle.e2.specs.Steps.{over, BP⁻}
+use Rattle.e2_steps.specs.Layout.{wordList}
+use Rattle.e2_steps.specs.Steps.{over, BP⁻}
 use Rattle.e2.proofs.OfWords.{last-of-words}
 use Rattle.e2.proofs.block.last.Statement.{statement}
 use Rattle.e2.proofs.block.last.Tie as tie

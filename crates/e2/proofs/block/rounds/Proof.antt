@@ -10,7 +10,7 @@ use Rattle.laws.specs.Bytes.{xorL}
 use Rattle.laws.specs.Rounds.{swapped, half}
 use Rattle.laws.proofs.Rounds.{Stepped, steps-start, steps-step, steps-end, run-tab}
 use Rattle.e2.specs.Block.{number, roundKey}
-use Rattle.e2.specs.Steps.{F}
+use Rattle.e2.specs.Block.{F}
 use Rattle.e2.proofs.block.rounds.Statement.{statement}
 use Rattle.e2.proofs.block.rounds.Tie as tie
 

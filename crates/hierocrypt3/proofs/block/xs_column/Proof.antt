@@ -1,7 +1,7 @@
 use mathlib.Core.Path.{_∙_}
 use Prim.Native.Nat.{_+_}
 use borrow.Author.Needs.{needs}
-use Rattle.hierocrypt3.specs.Operations.{mdsL}
+use Rattle.hierocrypt3_tables.specs.Operations.{mdsL}
 use Rattle.hierocrypt3.specs.Columns.{sColumn, keyColumn, xsColumn}
 use Rattle.hierocrypt3.proofs.block.xs_column.Statement.{statement}
 use Rattle.hierocrypt3.proofs.block.xs_column.Tie as tie

@@ -1,0 +1,4 @@
+pub mod Logs
+pub mod Sbox
+pub mod Entries
+pub mod MdsL
