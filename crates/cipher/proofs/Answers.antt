@@ -1,5 +1,5 @@
 -- The answers, one law for each outcome, in the order in which the code comes to it.
-use mathlib.Core.Path.{_≡_, refl, sym, ap, _∙_}
+use mathlib.Core.Path.{_≡_, refl, ap, _∙_}
 use mathlib.Core.Bool.{Bool, true, false, not, true≢false}
 use mathlib.Core.List.{List, _++_}
 use Prim.Native.Nat.{ℕ, _+_, _<_, _≤_}
@@ -7,9 +7,9 @@ use native.Mathlib.Omega.{arith}
 use lib.Dec.{eqb, ltb}
 use lib.ListN.{length, take, drop}
 use lib.Seq.{take-all}
-use borrow.Author.Tests.{eq-eqb, ne-eqb, lt-ltb, le-ltb, eqb-true, ltb-false, not-false}
+use borrow.Author.Tests.{eq-eqb, ne-eqb, lt-ltb, le-ltb, eqb-true, ltb-false}
 use Rattle.laws.specs.Choice.{choose}
-use Rattle.cipher.specs.Ciphers.{Cipher, number, isCipher, isLength}
+use Rattle.cipher.specs.Ciphers.{number, isCipher, isLength}
 use Rattle.cipher.specs.Schedule.{zeros, bad, padded}
 use Rattle.cipher.specs.Calls.{setUpRefusal, schedule, refusedSetUp, setUp, blockRefusal, blockOut}
 use Rattle.cipher.specs.declared.Schedule.{Schedule}

@@ -1,34 +1,52 @@
 -- A list filled from the front, and tails of zeros: the loops of `bytes`.
 use mathlib.Core.Path.{_≡_, refl, sym, ap, _∙_}
-use mathlib.Core.Bool.{Bool, true, false}
+use mathlib.Core.Bool.{Bool, true, false, true≢false}
 use mathlib.Core.List.{List, [], _∷_, _++_}
-use Prim.Native.Nat.{ℕ, suc, _+_, _-_, _≤_, _<_}
+use Prim.Native.Nat.{ℕ, zero, suc, _+_, _-_, _≤_, _<_}
 use native.Mathlib.Omega.{arith}
 use native.Mathlib.Numerals.{add-one}
 use lib.ListN.{length, getD, set, take, drop, replicate, drop-of-length-le}
 use lib.Seq.{drop-cons, set-at, append-snoc, take-suc, length-take-le}
-use borrow.Author.Tests.{eq-eqb, ne-eqb}
+use lib.Dec.{eqb}
+use lib.Bits.{bitOr, or-zero-l, or-add-and, and-le-r}
+use borrow.Author.Tests.{eqb-true, ne-eqb}
 use Rattle.laws.specs.Choice.{choose}
 use Rattle.cipher.specs.Schedule.{zeros}
 
 -- ---- zeros
-pub zeros-more : (l : List ℕ) (i : ℕ) → i < length l → getD l i 0 ≡ 0 → zeros (drop (i + 1) l) ≡ zeros (drop i l)
-zeros-more l i h e = rw (add-one, drop-cons l i 0, eq-eqb _ _ e)
-
-pub zeros-not : (l : List ℕ) (i : ℕ) → i < length l → (getD l i 0 ≡ 0 → ⊥) → false ≡ zeros (drop i l)
-zeros-not l i h e = rw (drop-cons l i 0, ne-eqb _ _ e)
-
 pub zeros-end : (l : List ℕ) (i : ℕ) → length l ≤ i → true ≡ zeros (drop i l)
 zeros-end l i h = rw drop-of-length-le
 
--- whether all were zero so far, and all from i on are: one place further, whatever stands there
-pub zeros-found : (l : List ℕ) (i : ℕ) (so-far : Bool) → i < length l → (getD l i 0 ≡ 0 → ⊥) → false ≡ choose so-far (zeros (drop i l)) false
-zeros-found l i true h e = zeros-not l i h e
-zeros-found l i false h e = refl
+-- by the or of those so far: one place further
+set-not-zero : (a : ℕ) → eqb (suc a) 0 ≡ false
+set-not-zero a = ne-eqb (suc a) 0 (λ e. omega arith)
 
-pub zeros-so-far : (l : List ℕ) (i : ℕ) (so-far : Bool) → length l ≤ i → so-far ≡ choose so-far (zeros (drop i l)) false
-zeros-so-far l i true h = zeros-end l i h
-zeros-so-far l i false h = refl
+or-suc : (a b : ℕ) → bitOr (suc a) b ≡ 0 → ⊥
+or-suc a b e =
+    let sum = or-add-and (suc a) b in
+    let both = and-le-r (suc a) b in
+    omega arith
+
+pub zeros-next : (l : List ℕ) (i any : ℕ) → i < length l
+    → choose (eqb (bitOr any (getD l i 0)) 0) (zeros (drop (i + 1) l)) false ≡ choose (eqb any 0) (zeros (drop i l)) false
+zeros-next l i zero h = rw (or-zero-l, add-one, drop-cons l i 0)
+zeros-next l i (suc any) h =
+    ap (λ (b : Bool). choose b (zeros (drop (i + 1) l)) false) (ne-eqb (bitOr (suc any) (getD l i 0)) 0 (or-suc any (getD l i 0)))
+    ∙ sym (ap (λ (b : Bool). choose b (zeros (drop i l)) false) (set-not-zero any))
+
+-- and at the end
+pub zeros-so-far : (l : List ℕ) (i any : ℕ) → length l ≤ i → eqb any 0 ≡ choose (eqb any 0) (zeros (drop i l)) false
+zeros-so-far l i zero h = zeros-end l i h
+zeros-so-far l i (suc any) h = set-not-zero any ∙ sym (ap (λ (b : Bool). choose b (zeros (drop i l)) false) (set-not-zero any))
+
+pub zeros-are : (l : List ℕ) → zeros l ≡ true → l ≡ replicate (length l) 0
+zeros-are [] z = refl
+zeros-are (x ∷ xs) z = first (eqb x 0) refl z (zeros-are xs)
+  where
+    first : (t : Bool) → eqb x 0 ≡ t → choose t (zeros xs) false ≡ true → (zeros xs ≡ true → xs ≡ replicate (length xs) 0)
+        → x ∷ xs ≡ 0 ∷ replicate (length xs) 0
+    first true e z rest = λ i. eqb-true x 0 e i ∷ rest z i
+    first false e z rest = absurd (true≢false (sym z))
 
 -- ---- the first i of s, zeros behind, and one more
 pub fill-next : (n : ℕ) (s : List ℕ) (i v : ℕ) → i < n → i < length s → v ≡ getD s i 0

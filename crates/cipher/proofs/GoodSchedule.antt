@@ -1,15 +1,14 @@
 -- The schedule that set-up makes of a legal key is good: behind the used bytes stand zeros.
-use mathlib.Core.Path.{_≡_, refl, sym, ap, _∙_}
-use mathlib.Core.Bool.{Bool, true, false, not}
+use mathlib.Core.Path.{_≡_, refl, _∙_}
+use mathlib.Core.Bool.{true, false}
 use mathlib.Core.List.{List, [], _∷_}
-use Prim.Native.Nat.{ℕ, zero, suc, _+_, _-_, _≤_, _<_}
+use Prim.Native.Nat.{ℕ, suc, _+_, _-_, _≤_, _<_}
 use native.Mathlib.Omega.{arith}
 use lib.ListN.{length, getD, drop, length-drop, List·getD-eq-default}
 use lib.Seq.{getD-drop}
 use borrow.Author.Tests.{eq-eqb}
-use Rattle.laws.specs.Places.{tab}
 use Rattle.laws.proofs.Places.{length-tab, getD-tab}
-use Rattle.cipher.specs.Ciphers.{Cipher, number, isCipher, isLength}
+use Rattle.cipher.specs.Ciphers.{number, isCipher, isLength}
 use Rattle.cipher.specs.Schedule.{zeros, bad, padded}
 use Rattle.cipher.specs.Calls.{schedule}
 

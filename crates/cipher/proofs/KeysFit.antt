@@ -1,5 +1,5 @@
 -- The round keys of a legal key are as many bytes as its schedule uses, so the schedule that set-up makes of it is good.
-use mathlib.Core.Path.{_≡_, refl, sym, ap, _∙_}
+use mathlib.Core.Path.{_≡_, refl, sym}
 use mathlib.Core.Bool.{Bool, true, false, true≢false}
 use mathlib.Core.List.{List, [], _∷_}
 use Prim.Native.Nat.{ℕ, suc, _+_, _*_, _/_, _%_, _≤_}
@@ -15,7 +15,7 @@ use Rattle.hierocrypt3_keys.specs.Keys.{K}
 use Rattle.hierocrypt3_keys.specs.Keys as hierocrypt3-keys
 use Rattle.e2_keys.specs.Keys.{subkey}
 use Rattle.e2_keys.specs.Keys as e2-keys
-use Rattle.cipher.specs.Ciphers.{Cipher, number, isCipher, isLength, member}
+use Rattle.cipher.specs.Ciphers.{number, isCipher, isLength, member}
 use Rattle.cipher.specs.Schedule.{bad}
 use Rattle.cipher.specs.Calls.{schedule}
 use Rattle.cipher.proofs.Legal.{legal, legal-3, number-1, number-2, number-3}

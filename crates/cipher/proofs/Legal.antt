@@ -1,14 +1,14 @@
 -- What a legal number and length are: the number is 1, 2 or 3, and the length 16, 24 or 32.
 use mathlib.Core.Path.{_≡_, refl, sym, ap}
 use mathlib.Core.Bool.{Bool, true, false, true≢false}
-use mathlib.Core.List.{List, [], _∷_}
-use Prim.Native.Nat.{ℕ, _≤_, _%_}
+use mathlib.Core.List.{[], _∷_}
+use Prim.Native.Nat.{ℕ, _≤_}
 use native.Mathlib.Omega.{arith}
 use lib.Dec.{eqb}
-use borrow.Author.Tests.{eqb-true, ne-eqb}
+use borrow.Author.Tests.{eqb-true}
 use Rattle.laws.specs.Choice.{choose}
 use Rattle.hierocrypt3.specs.Block.{KeyLength}
-use Rattle.cipher.specs.Ciphers.{Cipher, hierocrypt3, e2, noekeon, none, number, isLength, member}
+use Rattle.cipher.specs.Ciphers.{hierocrypt3, e2, noekeon, none, number, isLength, member}
 
 -- ---- the cipher of a number
 pub number-1 : (n : ℕ) → n ≡ 1 → number n ≡ hierocrypt3

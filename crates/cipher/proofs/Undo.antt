@@ -1,16 +1,14 @@
 -- Demand 2, one theorem over all ciphers: under a good schedule, whatever its round keys, deciphering a block undoes enciphering it and the reverse; and an
 -- enciphered block has 16 bytes.
-use mathlib.Core.Path.{_≡_, refl, sym, ap, _∙_, subst}
+use mathlib.Core.Path.{_≡_, refl, sym, subst}
 use mathlib.Core.Bool.{true, false}
 use mathlib.Core.List.{List}
 use Prim.Native.Nat.{ℕ}
 use native.Mathlib.Decide.{ℕ-discrete}
-use lib.ListN.{length, getD}
-use Rattle.laws.specs.Bytes.{Bytes, xorL}
+use lib.ListN.{length}
+use Rattle.laws.specs.Bytes.{Bytes}
 use Rattle.laws.specs.Inverse.{Inverse}
 use Rattle.laws.proofs.Words.{words-each}
-use Rattle.laws.proofs.Places.{length-tab}
-use Rattle.laws.proofs.XorLists.{length-xorL}
 use Rattle.hierocrypt3.specs.Block as hierocrypt3-block
 use Rattle.hierocrypt3.proofs.Undone as hierocrypt3-undo
 use Rattle.e2.specs.Block as e2-block

@@ -1,5 +1,5 @@
 -- What set-up and one block answer, return and write, on any input: 01, 'Refusal numbers'.
-use mathlib.Core.Bool.{Bool, not}
+use mathlib.Core.Bool.{not}
 use mathlib.Core.List.{List, _++_}
 use Prim.Native.Nat.{ℕ}
 use lib.Dec.{eqb, ltb}

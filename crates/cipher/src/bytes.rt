@@ -5,19 +5,17 @@ ghost use Prim.Native.Nat.{_+_, _≤_};
 ghost use lib.ListN.{length, take, drop};
 ghost use Rattle.cipher.specs.Schedule.{zeros};
 
-// Is every byte from a place on zero? It looks at all of them, which compiles to wide compares.
+// Is every byte from a place on zero? It looks at all of them, which compiles to wide ors.
 pub fn zero_from(bytes: &[u8], from: usize) -> bool
     ensures { λ r. ⌜ r ≡ zeros (drop from (now (bytes .entry))) ⌝ }
 {
-    let mut all = true;
+    let mut any: u8 = 0;
     let mut i = from;
     while i < bytes.len() {
-        if bytes[i] != 0 {
-            all = false;
-        }
+        any = any | bytes[i];
         i += 1;
     }
-    all
+    any == 0
 }
 
 // The 16 bytes from a place on.

@@ -3,7 +3,6 @@ ghost use mathlib.Core.Path.{_≡_};
 ghost use mathlib.Core.Bool.{true};
 ghost use mathlib.Core.List.{[], _∷_};
 ghost use lib.ListN.{length};
-ghost use Rattle.hierocrypt3_tables.specs.Tables.{sTable, sTable⁻, tTable, uTable};
 ghost use Rattle.e2_steps.specs.Steps as e2-steps;
 ghost use Rattle.cipher.specs.Ciphers.{number, isCipher, isLength, isDirection, member, Forward, Backward};
 ghost use Rattle.cipher.specs.Schedule.{padded};

@@ -18,13 +18,12 @@ pub struct SetUp {
     pub schedule: Schedule,
 }
 
-// Is the schedule bad? With its round keys lent, which are not copied then.
-pub fn bad_with(keys: &[u8; 288], s: Schedule) -> bool
-    requires { ⌜ now keys ≡ s .«round_keys» ⌝ }
-    ensures { λ r. ⌜ r ≡ bad s ⌝ }
+// Is a schedule bad? Its round keys are lent, and not copied then.
+pub fn bad_with(keys: &[u8; 288], cipher: u8, key_length: u8) -> bool
+    ensures { λ r. ⌜ r ≡ bad (record { «round_keys» = now (keys .entry); cipher = cipher; «key_length» = «key_length» }) ⌝ }
 {
-    let cipher = s.cipher as u64;
-    let length = s.key_length as usize;
+    let cipher = cipher as u64;
+    let length = key_length as usize;
     if !ciphers::is_cipher(cipher) {
         return true;
     }
@@ -38,8 +37,7 @@ pub fn bad_with(keys: &[u8; 288], s: Schedule) -> bool
 pub fn bad_schedule(s: Schedule) -> bool
     ensures { λ r. ⌜ r ≡ bad s ⌝ }
 {
-    let keys = s.round_keys;
-    bad_with(&keys, s)
+    bad_with(&s.round_keys, s.cipher, s.key_length)
 }
 
 // The all-zero schedule, beside a refusal.
@@ -101,8 +99,8 @@ pub fn encipher_block(s: Schedule, block: &[u8], out: &mut [u8]) -> u8
     if no != refusals::DONE {
         return no;
     }
-    let keys = s.round_keys;
-    let y = ciphers::encipher(&keys, s.cipher, s.key_length, bytes::block_at(block, 0));
+    let x = bytes::block_at(block, 0);
+    let y = ciphers::encipher(&s.round_keys, s.cipher, s.key_length, x);
     bytes::store(out, 0, y);
     refusals::DONE
 }
@@ -116,8 +114,8 @@ pub fn decipher_block(s: Schedule, block: &[u8], out: &mut [u8]) -> u8
     if no != refusals::DONE {
         return no;
     }
-    let keys = s.round_keys;
-    let y = ciphers::decipher(&keys, s.cipher, s.key_length, bytes::block_at(block, 0));
+    let x = bytes::block_at(block, 0);
+    let y = ciphers::decipher(&s.round_keys, s.cipher, s.key_length, x);
     bytes::store(out, 0, y);
     refusals::DONE
 }

@@ -2,12 +2,12 @@
 -- deciphers, however both are cut, and the reverse.
 use mathlib.Core.Path.{_≡_, refl, sym, ap, _∙_, subst}
 use mathlib.Core.Bool.{Bool, true, false, not}
-use mathlib.Core.List.{List, []}
-use Prim.Native.Nat.{ℕ, zero, suc, _*_, _/_}
+use mathlib.Core.List.{List}
+use Prim.Native.Nat.{ℕ, _*_, _/_}
 use native.Mathlib.Omega.{arith}
 use lib.Dec.{eqb}
 use lib.ListN.{length, take}
-use borrow.Author.Tests.{eq-eqb, ne-eqb, eqb-true}
+use borrow.Author.Tests.{eqb-true}
 use Rattle.laws.specs.Choice.{choose}
 use Rattle.laws.specs.Bytes.{Bytes}
 use Rattle.laws.proofs.Words.{Words}
@@ -21,8 +21,7 @@ use Rattle.cbc.proofs.Undo.{message-undo, message-redo}
 use Rattle.stream.specs.Calls.{startRefusal, fresh, refusedStart, start}
 use Rattle.stream.specs.Demand3.{Call, acceptedBytes, writtenBytes, CutAnywhere}
 use Rattle.stream.specs.declared.Stream.{Stream}
-use Rattle.stream.specs.declared.Started.{Started}
-use Rattle.stream.proofs.Demand3.{at, demand3-at}
+use Rattle.stream.proofs.Demand3.{demand3-at}
 
 module _ (s : Schedule) (d : ℕ) (first : List ℕ) where
   -- what an accepted start tells

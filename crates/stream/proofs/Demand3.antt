@@ -8,17 +8,17 @@ use native.Mathlib.Omega.{arith}
 use lib.Dec.{eqb}
 use lib.ListN.{length, take, drop, replicate, length-append}
 use lib.Seq.{take-at, drop-at}
-use borrow.Author.Tests.{eq-eqb, ne-eqb, le-ltb, eqb-true, not-false}
+use borrow.Author.Tests.{eq-eqb, ne-eqb, le-ltb, eqb-true}
 use Rattle.laws.specs.Choice.{choose}
 use Rattle.cipher.specs.Ciphers.{isDirection}
 use Rattle.cipher.specs.Schedule.{zeros, bad, enciphered, deciphered}
 use Rattle.cipher.specs.declared.Schedule.{Schedule}
-use Rattle.cbc.specs.Cbc.{out, chain, join, blocks, whole, rest, completed, answer}
+use Rattle.cbc.specs.Cbc.{chain, join, blocks, whole, rest, completed, answer}
 use Rattle.cbc.proofs.Parts.{out-none, chain-none}
 use Rattle.cbc.proofs.Cut.{rest-length, cut-rest, cut-answer, cut-chain}
 use Rattle.cbc.proofs.Sized.{Sized, out-long}
-use Rattle.stream.specs.State.{limit, heldNumber, atHand, held15, badState}
-use Rattle.stream.specs.Calls.{startRefusal, fresh, refusedStart, start, made, pieceRefusal, fed, fedBytes, feed, feedOut, finishRefusal, closedStream, finish}
+use Rattle.stream.specs.State.{limit, atHand, held15, badState}
+use Rattle.stream.specs.Calls.{fresh, start, pieceRefusal, fed, fedBytes, feed, feedOut, finishRefusal, finish}
 use Rattle.stream.specs.Demand3.{Call, next, accepted, written, after, acceptedBytes, writtenBytes, CutAnywhere}
 use Rattle.stream.specs.Demand3.Call.{piece, end}
 use Rattle.stream.specs.declared.Stream.{Stream}

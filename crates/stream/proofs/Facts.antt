@@ -1,24 +1,22 @@
 -- What 01 says of the calls beside their definitions: the formula for the bytes written, that a refusal changes nothing, that an empty piece is accepted on an open
 -- good stream, and that good states stay good.
 use mathlib.Core.Path.{_≡_, refl, sym, ap, _∙_}
-use mathlib.Core.Bool.{Bool, true, false, not, true≢false}
+use mathlib.Core.Bool.{Bool, true, false, not}
 use mathlib.Core.List.{List, []}
-use Prim.Native.Nat.{ℕ, zero, suc, _+_, _-_, _*_, _/_, _%_, _≤_}
+use Prim.Native.Nat.{ℕ, zero, suc, _+_, _-_, _*_, _/_, _%_}
 use native.Mathlib.Omega.{arith}
 use lib.Dec.{eqb}
-use lib.ListN.{length, take, drop, replicate, length-append, length-drop}
-use lib.Seq.{drop-at, length-take-le}
+use lib.ListN.{length, drop, replicate, length-drop}
+use lib.Seq.{drop-at}
 use borrow.Author.Tests.{eq-eqb, ne-eqb, le-ltb, eqb-true, eqb-false}
-use Rattle.laws.specs.Choice.{choose}
-use Rattle.cipher.specs.Ciphers.{isDirection}
-use Rattle.cipher.specs.Schedule.{zeros, bad}
+use Rattle.cipher.specs.Schedule.{zeros}
 use Rattle.stream.specs.State.{limit, heldNumber, atHand, held15, badState}
-use Rattle.stream.specs.Calls.{made, pieceRefusal, fed, feed, feedOut, finishRefusal, closedStream, finish}
+use Rattle.stream.specs.Calls.{made, pieceRefusal, fed, feed, feedOut, closedStream, finish}
 use Rattle.stream.specs.declared.Stream.{Stream}
 use Rattle.stream.specs.declared.Fed.{Fed}
 use Rattle.stream.specs.declared.Finished.{Finished}
 use Rattle.stream.proofs.Hand.{hand-length}
-use Rattle.stream.proofs.Outcomes.{good, good-open, closed-held, Accepted, accepted, finish-7, finish-10, finish-0}
+use Rattle.stream.proofs.Outcomes.{good, good-open, closed-held, accepted, finish-7, finish-10, finish-0}
 use Rattle.stream.proofs.Demand3.{zeros-replicate}
 
 -- ---- a piece, by its refusal

@@ -1,11 +1,14 @@
--- The bytes at hand: the first k of the held bytes h with a piece p behind them. What `byte_at`, `gather`, `block_of` and `left_over` read of them.
+-- The bytes at hand: the first k of the held bytes h with a piece p behind them. What `byte_at`, `gather`, `block_of`, `behind` and `left_over` read of them.
+use mathlib.Core.Bool.{true}
 use mathlib.Core.Path.{_≡_, sym, ap, _∙_}
 use mathlib.Core.List.{List, _++_, append-nil}
 use Prim.Native.Nat.{ℕ, _+_, _-_, _*_, _≤_, _<_}
+use native.Mathlib.Nat.{le-refl}
 use native.Mathlib.Omega.{arith}
-use lib.ListN.{length, getD, set, take, drop, replicate, take-append-drop, length-append, length-drop, length-replicate, replicate-append-replicate, List·getD-append}
-use lib.Seq.{length-take-le, getD-take, getD-append-add, drop-append-add, drop-drop, getD-drop, take-append-add, take-at}
-use Rattle.cipher.proofs.Fill.{fill-next}
+use lib.ListN.{length, getD, set, take, drop, replicate, take-append-drop, length-append, length-drop, List·getD-append}
+use lib.Seq.{length-take-le, getD-take, getD-append-add, drop-append-add, drop-drop, getD-drop, take-at, take-all}
+use Rattle.cipher.specs.Schedule.{zeros}
+use Rattle.cipher.proofs.Fill.{zeros-are, fill-next}
 use Rattle.stream.specs.State.{held15}
 use Rattle.stream.specs.Parts.{padded16}
 
@@ -41,22 +44,64 @@ module _ (h p : List ℕ) (k at m : ℕ) (fits : k ≤ length h) (small : m ≤ 
       let t : length (take m (drop at (take k h ++ p))) ≡ m = length-take-le m (drop at (take k h ++ p)) (omega arith) in
       rw (e, t)
 
--- ---- sixteen bytes have no zeros behind; fifteen of at most fifteen bytes and their zeros
+-- ---- sixteen bytes have no zeros behind
 pub padded16-whole : (l : List ℕ) → length l ≡ 16 → padded16 l ≡ l
 padded16-whole l e = rw e (append-nil l)
 
-take-replicate : (n m : ℕ) → _≡_ {A = List ℕ} (take n (replicate (n + m) 0)) (replicate n 0)
-take-replicate n m =
-    ap (take n) (sym (replicate-append-replicate n m 0)) ∙ take-at (replicate n 0) (replicate m 0) n (length-replicate n 0)
+-- ---- fifteen places: the first i of x, and behind them a piece p from a place on
+module _ (x p : List ℕ) (i from : ℕ) (long : length x ≡ 15) (within : from ≤ length p) (fits : i + (length p - from) ≤ 15) where
+  abbrev both : List ℕ
+  both = take i x ++ drop from p
 
-pub fifteen : (l : List ℕ) → length l ≤ 15 → take 15 (padded16 l) ≡ held15 l
-fifteen l h =
-    let e : 15 ≡ length l + (15 - length l) = omega arith in
-    let f : 16 - length l ≡ (15 - length l) + 1 = omega arith in
-    ap (λ (n : ℕ). take n (padded16 l)) e
-    ∙ take-append-add l (replicate (16 - length l) 0) (15 - length l)
-    ∙ ap (λ (n : ℕ). l ++ take (15 - length l) (replicate n 0)) f
-    ∙ ap (λ (z : List ℕ). l ++ z) (take-replicate (15 - length l) 1)
+  front-length : length (take i x) ≡ i
+  front-length = length-take-le i x (omega arith)
+
+  both-length : length both ≡ i + (length p - from)
+  both-length =
+      let e = front-length in
+      let d = length-drop from p in
+      let l = length-append (take i x) (drop from p) in
+      omega arith
+
+  pub behind-start : zeros (drop i x) ≡ true → x ≡ take i both ++ replicate (15 - i) 0
+  behind-start z =
+      sym (take-append-drop i x)
+      ∙ ap (λ (l : List ℕ). l ++ drop i x) (sym (take-at (take i x) (drop from p) i front-length))
+      ∙ ap (λ (l : List ℕ). take i both ++ l) (zeros-are (drop i x) z)
+      ∙ ap (λ (n : ℕ). take i both ++ replicate n 0) (length-drop i x ∙ ap (λ (n : ℕ). n - i) long)
+
+  pub behind-next : (j v : ℕ) → from ≤ j → j < length p → v ≡ getD p j 0
+      → set (take (i + (j - from)) both ++ replicate (15 - (i + (j - from))) 0) (i + (j - from)) v
+      ≡ take (i + (j + 1 - from)) both ++ replicate (15 - (i + (j + 1 - from))) 0
+  behind-next j v h l e =
+      let n = both-length in
+      let f = front-length in
+      let there : from + (j - from) ≡ j = omega arith in
+      let place : i + (j - from) ≡ length (take i x) + (j - from) = omega arith in
+      let next : i + (j - from) + 1 ≡ i + (j + 1 - from) = omega arith in
+      let value : getD both (i + (j - from)) 0 ≡ getD p j 0 =
+      ap (λ (k : ℕ). getD both k 0) place
+      ∙ getD-append-add (take i x) (drop from p) (j - from) 0
+      ∙ getD-drop from p (j - from) 0
+      ∙ ap (λ (k : ℕ). getD p k 0) there in
+      fill-next 15 both (i + (j - from)) v (omega arith) (omega arith) (e ∙ sym value)
+      ∙ ap (λ (k : ℕ). take k both ++ replicate (15 - k) 0) next
+
+  pub behind-end : (j : ℕ) → j ≡ length p → take (i + (j - from)) both ++ replicate (15 - (i + (j - from))) 0 ≡ held15 both
+  behind-end j e =
+      let n : i + (j - from) ≡ length both = ap (λ (k : ℕ). i + (k - from)) e ∙ sym both-length in
+      ap (λ (k : ℕ). take k both ++ replicate (15 - k) 0) n ∙ ap (λ (l : List ℕ). l ++ replicate (15 - length both) 0) (take-all (length both) both (le-refl (length both)))
+
+-- ---- what stands behind n whole blocks of the bytes at hand
+module _ (h p : List ℕ) (k n : ℕ) where
+  pub left-none : n ≡ 0 → take k h ++ p ≡ drop (16 * n) (take k h ++ p)
+  left-none none = rw none
+
+  pub left-some : k ≤ length h → k ≤ 16 * n → drop (16 * n - k) p ≡ drop (16 * n) (take k h ++ p)
+  left-some fits l =
+      let e : length (take k h) ≡ k = length-take-le k h fits in
+      let m : 16 * n ≡ length (take k h) + (16 * n - k) = omega arith in
+      sym (ap (λ (i : ℕ). drop i (take k h ++ p)) m ∙ drop-append-add (take k h) p (16 * n - k))
 
 -- ---- a message by its first block f and what stands in a piece p from a place on
 module _ (f p : List ℕ) (from : ℕ) (whole : length f ≡ 16) where
@@ -83,10 +128,3 @@ module _ (h p : List ℕ) (k : ℕ) (fits : k ≤ length h) where
       let m : 16 ≡ length (take k h) + (16 - k) = omega arith in
       ap (λ (l : List ℕ). take 16 (take k h ++ p) ++ l) (sym (ap (λ (n : ℕ). drop n (take k h ++ p)) m ∙ drop-append-add (take k h) p (16 - k)))
       ∙ take-append-drop 16 (take k h ++ p)
-
-module _ (h p : List ℕ) (k at : ℕ) (fits : k ≤ length h) where
-  pub left-length : (m : ℕ) → at + m ≤ k + length p → length (take m (drop at (take k h ++ p))) ≡ m
-  left-length m there =
-      let n = hand-length h p k fits in
-      let d = length-drop at (take k h ++ p) in
-      length-take-le m (drop at (take k h ++ p)) (omega arith)

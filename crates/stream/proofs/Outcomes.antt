@@ -1,25 +1,24 @@
 -- The answers of the calls, one law for each outcome, in the order in which the code comes to it.
-use mathlib.Core.Path.{_≡_, refl, sym, ap, _∙_}
+use mathlib.Core.Path.{_≡_, refl}
 use mathlib.Core.Bool.{Bool, true, false, not, true≢false}
 use mathlib.Core.List.{List, _++_}
 use Prim.Native.Nat.{ℕ, _+_, _-_, _*_, _/_, _%_, _≤_, _<_}
 use native.Mathlib.Omega.{arith}
 use lib.Dec.{ltb, eqb}
-use lib.ListN.{length, take, drop, replicate, length-drop}
+use lib.ListN.{length, take, drop, replicate}
 use lib.Seq.{take-all}
 use borrow.Author.Tests.{eq-eqb, ne-eqb, lt-ltb, le-ltb, ltb-false, eqb-true}
 use Rattle.laws.specs.Choice.{choose}
 use Rattle.cipher.specs.Ciphers.{isDirection}
 use Rattle.cipher.specs.Schedule.{zeros, bad, enciphered, deciphered}
 use Rattle.cipher.specs.declared.Schedule.{Schedule}
-use Rattle.cbc.specs.Cbc.{out, chain, join, blocks, completed}
+use Rattle.cbc.specs.Cbc.{out, chain, join, blocks}
 use Rattle.stream.specs.State.{limit, heldNumber, atHand, held15, badState}
 use Rattle.stream.specs.Calls.{startRefusal, fresh, refusedStart, start, made, pieceRefusal, fed, fedBytes, feed, feedOut, finishRefusal, closedStream, finish}
 use Rattle.stream.specs.declared.Stream.{Stream}
 use Rattle.stream.specs.declared.Started.{Started}
 use Rattle.stream.specs.declared.Fed.{Fed}
 use Rattle.stream.specs.declared.Finished.{Finished}
-use Rattle.stream.proofs.Hand.{hand-length}
 
 -- ---- a bad state
 module _ (s : Stream) where
@@ -161,14 +160,6 @@ module _ (s : Stream) (p o : List ℕ) where
         → o′ ≡ feedOut s p o
     unfolding feedOut fedBytes
     piece-put o′ h = rw (h, hn, eq-eqb _ _ ok)
-
-  -- the bytes behind the whole blocks, held
-  pub tail-held : (n m : ℕ) → length (s .held) ≡ 15 → 16 * n + m ≡ s .count % 16 + length p
-      → held15 (take m (drop (16 * n) (atHand s p))) ≡ held15 (drop (16 * n) (atHand s p))
-  tail-held n m h e =
-      let l = hand-length (s .held) p (s .count % 16) (omega arith) in
-      let d = length-drop (16 * n) (atHand s p) in
-      ap held15 (take-all m (drop (16 * n) (atHand s p)) (omega arith))
 
 -- ---- finish
 module _ (s : Stream) where

@@ -1,5 +1,5 @@
 -- What start, a piece and finish answer, return and write, on any input: 01, 'Refusal numbers'.
-use mathlib.Core.Bool.{Bool, true, false, not}
+use mathlib.Core.Bool.{true, false, not}
 use mathlib.Core.List.{List, _++_}
 use Prim.Native.Nat.{ℕ, _+_, _*_}
 use lib.Dec.{ltb, eqb}

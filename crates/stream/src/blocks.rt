@@ -3,13 +3,13 @@ use crate::Stream;
 ghost use mathlib.Core.Path.{_≡_};
 ghost use mathlib.Core.Bool.{true};
 ghost use mathlib.Core.List.{[], _∷_, _++_};
-ghost use Prim.Native.Nat.{_+_, _*_, _%_, _≤_, _<_};
+ghost use Prim.Native.Nat.{_+_, _-_, _*_, _%_, _≤_, _<_};
 ghost use lib.ListN.{length, take, drop, getD};
 ghost use Rattle.laws.specs.Bytes.{xorL};
 ghost use Rattle.cipher.specs.Ciphers.{number, isLength, Forward, Backward};
-ghost use Rattle.cipher.specs.Schedule.{enciphered, deciphered};
+ghost use Rattle.cipher.specs.Schedule.{zeros};
 ghost use Rattle.cbc.specs.Cbc as cbc;
-ghost use Rattle.stream.specs.State.{atHand, held15};
+ghost use Rattle.stream.specs.State.{held15};
 ghost use Rattle.stream.specs.Parts.{padded16, Ran};
 
 // The byte at a place of the held bytes with the piece behind them.
@@ -45,35 +45,29 @@ fn block_of(first: [u8; 16], piece: &[u8], from: usize, j: usize) -> [u8; 16]
     cipher::bytes::block_at(piece, from + 16 * (j - 1))
 }
 
-// The first fifteen of sixteen bytes.
-fn first_fifteen(x: [u8; 16]) -> [u8; 15]
-    ensures { λ r. ⌜ r ≡ take 15 x ⌝ }
+// Fifteen places: the first i of x, and behind them the piece from a place on.
+fn behind(x: [u8; 15], i: usize, piece: &[u8], from: usize) -> [u8; 15]
+    requires { ⌜ (from ≤ length (now piece)) × (i + (length (now piece) - from) ≤ 15) × (zeros (drop i x) ≡ true) ⌝ }
+    ensures { λ r. ⌜ r ≡ held15 (take i x ++ drop from (now (piece .entry))) ⌝ }
 {
-    [
-        x[0],
-        x[1],
-        x[2],
-        x[3],
-        x[4],
-        x[5],
-        x[6],
-        x[7],
-        x[8],
-        x[9],
-        x[10],
-        x[11],
-        x[12],
-        x[13],
-        x[14],
-    ]
+    let mut r = x;
+    let mut j = from;
+    while j < piece.len() {
+        r[i + (j - from)] = piece[j];
+        j += 1;
+    }
+    r
 }
 
-// The m bytes behind the whole blocks, to be held.
-pub fn left_over(held: &[u8], kept: usize, piece: &[u8], at: usize, m: usize) -> [u8; 15]
-    requires { ⌜ (kept ≤ length (now held)) × (m ≤ 15) × (at + m ≤ kept + length (now piece)) ⌝ }
-    ensures { λ r. ⌜ r ≡ held15 (take m (drop at (take kept (now (held .entry)) ++ now (piece .entry)))) ⌝ }
+// The bytes behind n whole blocks, to be held: where no block was completed, the held ones with the piece behind them, and else the last of the piece.
+pub fn left_over(held: [u8; 15], kept: usize, piece: &[u8], n: usize) -> [u8; 15]
+    requires { ⌜ (kept ≤ 15) × (zeros (drop kept held) ≡ true) × (16 * n ≤ kept + length (now piece)) × (kept + length (now piece) ≤ 16 * n + 15) ⌝ }
+    ensures { λ r. ⌜ r ≡ held15 (drop (16 * n) (take kept held ++ now (piece .entry))) ⌝ }
 {
-    first_fifteen(gather(held, kept, piece, at, m))
+    if n == 0 {
+        return behind(held, kept, piece, 0);
+    }
+    behind([0u8; 15], 0, piece, 16 * n - kept)
 }
 
 // Two blocks xored.

@@ -6,7 +6,7 @@ mod state;
 
 ghost use mathlib.Core.Path.{_≡_};
 ghost use lib.ListN.{length};
-ghost use Rattle.stream.specs.Calls.{start, refusedStart, feed, feedOut, pieceRefusal, finish};
+ghost use Rattle.stream.specs.Calls.{start, refusedStart, feed, feedOut, finish};
 
 pub struct Stream {
     pub schedule: Schedule,
@@ -101,34 +101,26 @@ impl Stream {
         ensures { λ r. ⌜ (r ≡ feed self (now (piece .entry)) (length (now (out .entry))))
             × (now (out .exit) ≡ feedOut self (now (piece .entry)) (now (out .entry))) ⌝ }
     {
-        let schedule = self.schedule;
-        let keys = schedule.round_keys;
-        let no = state::piece_refusal(&keys, self, piece.len(), out.len());
+        let mut next = self;
+        let bad = cipher::bad_with(
+            &next.schedule.round_keys,
+            next.schedule.cipher,
+            next.schedule.key_length,
+        );
+        let no = state::piece_refusal(bad, next, piece.len(), out.len());
         if no != refusals::DONE {
-            return not_fed(no, self);
+            return not_fed(no, next);
         }
-        let kept = (self.count % 16) as usize;
+        let kept = (next.count % 16) as usize;
         let n = (kept + piece.len()) / 16;
-        let mut chain = self.chain;
         if n > 0 {
-            let last = blocks::run(self, piece, out, n);
-            chain = last;
+            let last = blocks::run(next, piece, out, n);
+            next.chain = last;
         }
-        let old = self.held;
-        let held = blocks::left_over(&old, kept, piece, 16 * n, (kept + piece.len()) % 16);
-        let schedule = Schedule {
-            round_keys: keys,
-            cipher: schedule.cipher,
-            key_length: schedule.key_length,
-        };
-        let next = Stream {
-            schedule: schedule,
-            direction: self.direction,
-            count: self.count + piece.len() as u64,
-            chain: chain,
-            held: held,
-            closed: self.closed,
-        };
+        let old = next.held;
+        let held = blocks::left_over(old, kept, piece, n);
+        next.held = held;
+        next.count += piece.len() as u64;
         Fed {
             answer: refusals::DONE,
             written: (16 * n) as u64,
@@ -140,9 +132,12 @@ impl Stream {
     pub fn finish(self) -> Finished
         ensures { λ r. ⌜ r ≡ finish self ⌝ }
     {
-        let schedule = self.schedule;
-        let keys = schedule.round_keys;
-        if state::bad_state(&keys, self) {
+        let bad = cipher::bad_with(
+            &self.schedule.round_keys,
+            self.schedule.cipher,
+            self.schedule.key_length,
+        );
+        if state::bad_state(bad, self) {
             return Finished {
                 answer: refusals::BAD_STATE,
                 next: self,

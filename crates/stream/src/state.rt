@@ -1,15 +1,16 @@
 // When a state is bad, and when a piece is refused.
 use crate::Stream;
 ghost use mathlib.Core.Path.{_≡_};
+ghost use Rattle.cipher.specs.Schedule.{bad};
 ghost use Rattle.stream.specs.State.{badState};
 ghost use Rattle.stream.specs.Calls.{pieceRefusal};
 
-// Is the state bad? Its round keys are lent, here and below, so that a call copies them once.
-pub fn bad_state(keys: &[u8; 288], s: Stream) -> bool
-    requires { ⌜ now keys ≡ s .schedule .«round_keys» ⌝ }
+// Is the state bad? Whether its schedule is, the call has asked, which lends the round keys where they stand.
+pub fn bad_state(bad_schedule: bool, s: Stream) -> bool
+    requires { ⌜ «bad_schedule» ≡ bad (s .schedule) ⌝ }
     ensures { λ r. ⌜ r ≡ badState s ⌝ }
 {
-    if cipher::bad_with(keys, s.schedule) {
+    if bad_schedule {
         return true;
     }
     if !cipher::ciphers::is_direction(s.direction as u64) {
@@ -27,11 +28,11 @@ pub fn bad_state(keys: &[u8; 288], s: Stream) -> bool
 }
 
 // The refusal of a piece of n bytes with that room, or 0.
-pub fn piece_refusal(keys: &[u8; 288], s: Stream, n: usize, room: usize) -> u8
-    requires { ⌜ now keys ≡ s .schedule .«round_keys» ⌝ }
+pub fn piece_refusal(bad_schedule: bool, s: Stream, n: usize, room: usize) -> u8
+    requires { ⌜ «bad_schedule» ≡ bad (s .schedule) ⌝ }
     ensures { λ r. ⌜ r ≡ pieceRefusal s n room ⌝ }
 {
-    if bad_state(keys, s) {
+    if bad_state(bad_schedule, s) {
         return refusals::BAD_STATE;
     }
     if s.closed {

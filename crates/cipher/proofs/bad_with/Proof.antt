@@ -1,19 +1,9 @@
-use mathlib.Core.Path.{sym, ap, _∙_}
-use mathlib.Core.List.{List}
-use Prim.Native.Nat.{ℕ}
-use lib.ListN.{drop}
+use mathlib.Core.Path.{sym, _∙_}
 use borrow.Author.Tests.{not-true, not-false}
-use Rattle.cipher.specs.Schedule.{zeros}
 use Rattle.cipher.proofs.Answers.{bad-number, bad-length, bad-bytes}
 use borrow.Author.Needs.{needs}
 use Rattle.cipher.proofs.bad_with.Statement.{statement}
 use Rattle.cipher.proofs.bad_with.Tie as tie
-
-cast-cipher : tie.Need-cast-cipher
-cast-cipher c = search needs
-
-cast-length : tie.Need-cast-length
-cast-length c = search needs
 
 is-cipher-requires : tie.Need-is-cipher-requires
 is-cipher-requires c κs = search needs
@@ -37,14 +27,12 @@ returns-3 : tie.Need-returns-3
 returns-3 c =
     bad-bytes _ (sym (c .before .before .before .before .before .before .is-cipher .ensures) ∙ not-false _ (c .before .before .before .before .before .if1 .left)) (sym (c .before .before .before .before .is-length .ensures) ∙ not-false _ (c .before .before .before .if2 .left))
     (c .before .used .result) (c .zero-from .result) (c .before .used .ensures)
-    (c .zero-from .ensures ∙ ap (λ (l : List ℕ). zeros (drop (c .before .used .result) l)) (c .before .before .before .before .before .before .before .before .before .pre))
+    (c .zero-from .ensures)
 
 pub bad-with-spec : {M : Type 1} → statement M
 bad-with-spec =
     tie.close
     (tie.spec
-    cast-cipher
-    cast-length
     is-cipher-requires
     returns
     is-length-requires

@@ -13,7 +13,7 @@ returns : tie.Need-returns
 returns c = (c .before .block-refusal .ensures, out-refused deciphered _ _ _ (λ z. c .if1 .taken (c .before .block-refusal .ensures ∙ z)))
 
 block-at-requires : tie.Need-block-at-requires
-block-at-requires c κs = let w = accepted _ _ _ (sym (c .before .before .before .block-refusal .ensures) ∙ c .before .before .if1 .left) .whole in omega arith
+block-at-requires c κs = let w = accepted _ _ _ (sym (c .before .block-refusal .ensures) ∙ c .if1 .left) .whole in omega arith
 
 decipher-requires : tie.Need-decipher-requires
 decipher-requires c κs = good-length _ (accepted _ _ _ (sym (c .before .before .before .before .block-refusal .ensures) ∙ c .before .before .before .if1 .left) .good)
@@ -28,7 +28,7 @@ returns-2 : tie.Need-returns-2
 unfolding deciphered
 returns-2 c =
     let e = sym (c .before .before .before .before .before .before .before .before .before .block-refusal .ensures) ∙ c .before .before .before .before .before .before .before .before .if1 .left in
-    (sym e, out-stored deciphered _ _ _ (c .before .before .before .before .before .block-at .result) (c .before .before .before .before .decipher .result) _ (c .before .before .before .before .before .block-at .ensures) (c .before .before .before .before .decipher .ensures) (c .before .before .store .ensures) e)
+    (sym e, out-stored deciphered _ _ _ (c .before .before .before .before .before .before .before .block-at .result) (c .before .before .before .before .decipher .result) _ (c .before .before .before .before .before .before .before .block-at .ensures) (c .before .before .before .before .decipher .ensures) (c .before .before .store .ensures) e)
 
 pub decipher-block-spec : {M : Type 1} → statement M
 decipher-block-spec =

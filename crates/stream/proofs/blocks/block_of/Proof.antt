@@ -1,9 +1,6 @@
-use mathlib.Core.Path.{_∙_, ap, _≡_}
-use mathlib.Core.List.{List, _++_}
+use mathlib.Core.Path.{_∙_, _≡_}
 use borrow.Author.Needs.{needs}
-use native.Mathlib.Omega.{arith}
-use Prim.Native.Nat.{ℕ, _*_}
-use lib.ListN.{length, take, drop}
+use lib.ListN.{length}
 use Rattle.stream.proofs.Hand.{block-first, block-later}
 use Rattle.stream.proofs.blocks.block_of.Statement.{statement}
 use Rattle.stream.proofs.blocks.block_of.Tie as tie

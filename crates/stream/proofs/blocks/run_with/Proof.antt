@@ -6,7 +6,6 @@ use borrow.Author.Needs.{needs}
 use lib.ListN.{length, drop}
 use Rattle.cipher.specs.Schedule.{enciphered, deciphered}
 use Rattle.cbc.proofs.Loop.{Running, running-start, running-length, running-next}
-use Rattle.stream.specs.State.{atHand}
 use Rattle.stream.proofs.Hand.{first-of-hand, hand-split}
 use Rattle.stream.proofs.blocks.run_with.Statement.{statement}
 use Rattle.stream.proofs.blocks.run_with.Tie as tie

@@ -5,11 +5,8 @@ use Rattle.stream.proofs.Outcomes.{bad-schedule, bad-direction, bad-cou
 use Rattle.stream.proofs.state.bad_state.Statement.{statement}
 use Rattle.stream.proofs.state.bad_state.Tie as tie
 
-bad-with-requires : tie.Need-bad-with-requires
-bad-with-requires c κs = search needs
-
 returns : tie.Need-returns
-returns c = bad-schedule _ (sym (c .before .bad-with .ensures) ∙ c .if1 .taken)
+returns c = bad-schedule _ (sym (c .before .pre) ∙ c .if1 .taken)
 
 cast-is-direction : tie.Need-cast-is-direction
 cast-is-direction c = search needs
@@ -18,10 +15,10 @@ is-direction-requires : tie.Need-is-direction-requires
 is-direction-requires c κs = search needs
 
 returns-2 : tie.Need-returns-2
-returns-2 c = bad-direction _ (sym (c .before .before .before .before .bad-with .ensures) ∙ c .before .before .before .if1 .left) (sym (c .before .is-direction .ensures) ∙ not-true _ (c .if2 .taken))
+returns-2 c = bad-direction _ (sym (c .before .before .before .before .pre) ∙ c .before .before .before .if1 .left) (sym (c .before .is-direction .ensures) ∙ not-true _ (c .if2 .taken))
 
 returns-3 : tie.Need-returns-3
-returns-3 c = bad-count _ (sym (c .before .before .before .before .before .before .bad-with .ensures) ∙ c .before .before .before .before .before .if1 .left) (sym (c .before .before .before .is-direction .ensures) ∙ not-false _ (c .before .before .if2 .left)) (c .if3 .taken)
+returns-3 c = bad-count _ (sym (c .before .before .before .before .before .before .pre) ∙ c .before .before .before .before .before .if1 .left) (sym (c .before .before .before .is-direction .ensures) ∙ not-false _ (c .before .before .if2 .left)) (c .if3 .taken)
 
 slice-aggregate-zero-from : tie.Need-slice-aggregate-zero-from
 slice-aggregate-zero-from c = search needs
@@ -31,24 +28,23 @@ zero-from-requires c κs = search needs
 
 returns-4 : tie.Need-returns-4
 returns-4 c =
-    bad-held _ (sym (c .before .before .before .before .before .before .before .before .before .before .before .bad-with .ensures) ∙ c .before .before .before .before .before .before .before .before .before .before .if1 .left) (sym (c .before .before .before .before .before .before .before .before .is-direction .ensures) ∙ not-false _ (c .before .before .before .before .before .before .before .if2 .left)) (c .before .before .before .before .before .if3 .left)
+    bad-held _ (sym (c .before .before .before .before .before .before .before .before .before .before .before .pre) ∙ c .before .before .before .before .before .before .before .before .before .before .if1 .left) (sym (c .before .before .before .before .before .before .before .before .is-direction .ensures) ∙ not-false _ (c .before .before .before .before .before .before .before .if2 .left)) (c .before .before .before .before .before .if3 .left)
     (sym (c .before .zero-from .ensures) ∙ not-true _ (c .if4 .taken))
 
 returns-5 : tie.Need-returns-5
 returns-5 c =
-    closed-held _ (sym (c .before .before .before .before .before .before .before .before .before .before .before .before .bad-with .ensures) ∙ c .before .before .before .before .before .before .before .before .before .before .before .if1 .left) (sym (c .before .before .before .before .before .before .before .before .before .is-direction .ensures) ∙ not-false _ (c .before .before .before .before .before .before .before .before .if2 .left)) (c .before .before .before .before .before .before .if3 .left)
+    closed-held _ (sym (c .before .before .before .before .before .before .before .before .before .before .before .before .pre) ∙ c .before .before .before .before .before .before .before .before .before .before .before .if1 .left) (sym (c .before .before .before .before .before .before .before .before .before .is-direction .ensures) ∙ not-false _ (c .before .before .before .before .before .before .before .before .if2 .left)) (c .before .before .before .before .before .before .if3 .left)
     (sym (c .before .before .zero-from .ensures) ∙ not-false _ (c .before .if4 .left)) (c .if5 .taken)
 
 returns-6 : tie.Need-returns-6
 returns-6 c =
-    good-open _ (sym (c .before .before .before .before .before .before .before .before .before .before .before .before .bad-with .ensures) ∙ c .before .before .before .before .before .before .before .before .before .before .before .if1 .left) (sym (c .before .before .before .before .before .before .before .before .before .is-direction .ensures) ∙ not-false _ (c .before .before .before .before .before .before .before .before .if2 .left)) (c .before .before .before .before .before .before .if3 .left)
+    good-open _ (sym (c .before .before .before .before .before .before .before .before .before .before .before .before .pre) ∙ c .before .before .before .before .before .before .before .before .before .before .before .if1 .left) (sym (c .before .before .before .before .before .before .before .before .before .is-direction .ensures) ∙ not-false _ (c .before .before .before .before .before .before .before .before .if2 .left)) (c .before .before .before .before .before .before .if3 .left)
     (sym (c .before .before .zero-from .ensures) ∙ not-false _ (c .before .if4 .left)) (c .if5 .left)
 
 pub bad-state-spec : {M : Type 1} → statement M
 bad-state-spec =
     tie.close
     (tie.spec
-    bad-with-requires
     returns
     cast-is-direction
     is-direction-requires
