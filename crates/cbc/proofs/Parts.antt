@@ -1,13 +1,13 @@
 -- CBC of a list of blocks in two parts, over any block functions, and the loop that goes block by block.
 use mathlib.Core.Path.{_≡_, refl, sym, ap, ap₂, _∙_}
 use mathlib.Core.Bool.{Bool, true, false}
-use mathlib.Core.List.{List, [], _∷_, _++_, append-assoc, append-nil}
+use mathlib.Core.List.{List, [], _∷_, _++_, append-assoc}
 use Prim.Native.Nat.{ℕ, zero, suc, _+_, _*_, _≤_}
 use native.Mathlib.Omega.{arith}
 use native.Mathlib.Nat.{zero-add}
 use lib.Dec.{eqb}
-use lib.ListN.{length, take, drop, length-append, length-drop}
-use lib.Seq.{take-append-le, drop-append-le, drop-drop, take-at, drop-at}
+use lib.ListN.{length, take, drop, length-drop}
+use lib.Seq.{take-append-le, drop-append-le, drop-drop}
 use Rattle.laws.specs.Choice.{choose}
 use Rattle.laws.specs.Bytes.{xorL}
 use Rattle.cbc.specs.Cbc.{enciphered, deciphered, lastOr, out, chain, join, blocks}

@@ -1,23 +1,19 @@
 -- Demand 2, as a user sees it: for every legal key the entry's block is the written definition's under the round keys that its definition makes of the key, and the
 -- two directions undo one another.
-use mathlib.Core.Path.{_≡_, refl, sym, ap, _∙_}
+use mathlib.Core.Path.{_≡_, refl}
 use mathlib.Core.Bool.{true}
 use mathlib.Core.List.{List, _++_}
 use Prim.Native.Nat.{ℕ, _+_, _≤_}
-use native.Mathlib.Omega.{arith}
 use native.Mathlib.Decide.{ℕ-discrete}
-use lib.Dec.{eqb, ltb}
 use lib.ListN.{length, getD, drop}
-use lib.Pow.{pow-pos}
 use borrow.Author.Tests.{eq-eqb, le-ltb}
-use Rattle.laws.specs.Places.{tab, Each}
 use Rattle.laws.specs.Bytes.{Byte, Bytes}
 use Rattle.laws.specs.Inverse.{Inverse}
 use Rattle.laws.proofs.Places.{each-tab}
 use Rattle.laws.proofs.Words.{Words, word-at, words-each}
 use Rattle.hierocrypt3_keys.proofs.KeyBytes as hierocrypt3-bytes
 use Rattle.e2_keys.proofs.KeysAreBytes as e2-bytes
-use Rattle.cipher.specs.Ciphers.{Cipher, number, isCipher, isLength, isDirection}
+use Rattle.cipher.specs.Ciphers.{number, isCipher, isLength, isDirection}
 use Rattle.cipher.specs.Schedule.{padded, enciphered, deciphered}
 use Rattle.cipher.specs.Calls.{schedule}
 use Rattle.cipher.proofs.Legal.{legal-3, number-1, number-2, number-3}

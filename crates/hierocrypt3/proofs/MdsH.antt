@@ -1,6 +1,6 @@
 -- MDS_H and its inverse (002, section 3.2) undo one another. Each is written over any sum, so that the equations are solved over unknowns.
 use mathlib.Core.Path.{_≡_, refl, sym, ap, _∙_}
-use mathlib.Core.List.{List, [], _∷_}
+use mathlib.Core.List.{List, []}
 use Prim.Native.Nat.{ℕ, _+_, _*_, _/_, _%_}
 use lib.Pow.{pow-pos}
 use lib.Bits.{bitXor}

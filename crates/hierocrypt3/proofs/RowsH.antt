@@ -1,6 +1,6 @@
 -- MDS_H as the code takes it (002, section 3.2): four rows of the block as words, a row of bits times them by xors of whole words, and what comes of four
 -- matrices' rows turned by one column more each and xored. `matrices` says it over any sum, so that it is MDS_H by equations solved over unknowns.
-use mathlib.Core.Path.{_≡_, refl, sym, ap, _∙_}
+use mathlib.Core.Path.{_≡_, refl, ap, _∙_}
 use mathlib.Core.List.{List, [], _∷_}
 use Prim.Native.Nat.{ℕ, zero, suc, _+_, _%_, _<_}
 use native.Mathlib.Nat.{le-suc, le-trans, le-refl}

@@ -1,5 +1,5 @@
 -- The steps of a block one column at a time, as the code takes them; `proofs/Steps` shows that they make those of `Block`. Round keys are read where they stand.
-use mathlib.Core.List.{List, [], _∷_}
+use mathlib.Core.List.{List, []}
 use Prim.Native.Nat.{ℕ, _+_}
 use lib.Bits.{bitXor}
 use lib.Dec.{ltb}

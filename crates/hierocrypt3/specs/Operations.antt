@@ -1,11 +1,10 @@
 -- Hierocrypt-3's operations: 002, section 3, in its names; 01 ('Hierocrypt-3') where its print is broken. A block is four columns of four bytes.
 -- s and mds_L (sections 3.6 and 3.7) are defined in crates/hierocrypt3_tables.
-use mathlib.Core.List.{List, [], _∷_, _++_}
+use mathlib.Core.List.{List, [], _∷_}
 use Prim.Native.Nat.{ℕ}
 use lib.Bits.{bitXor}
 use lib.ListN.{getD}
-use Rattle.laws.specs.Places.{tab, layer, part, quarters, joined}
-use Rattle.laws.specs.Bytes.{xorL}
+use Rattle.laws.specs.Places.{tab, layer}
 use Rattle.laws.specs.Matrix.{matrix, bitMatrix}
 use Rattle.hierocrypt3_tables.specs.Operations.{s, s⁻, mdsL, mdsL⁻}
 

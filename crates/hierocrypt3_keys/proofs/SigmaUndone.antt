@@ -1,5 +1,5 @@
 -- σ and its inverse with the same constant undo one another (002, section 2.3.3), on intermediate keys of four pieces of eight bytes.
-use mathlib.Core.Path.{_≡_, sym, ap, ap₂, _∙_}
+use mathlib.Core.Path.{_≡_, ap, _∙_}
 use mathlib.Core.List.{List, _++_}
 use Prim.Native.Nat.{ℕ, _+_}
 use lib.Dec.{lit<}

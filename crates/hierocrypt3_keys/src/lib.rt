@@ -9,7 +9,6 @@ use crate::operations::p32_second;
 use crate::operations::xor8;
 use hierocrypt3_tables::forward;
 ghost use mathlib.Core.Path.{_≡_};
-ghost use mathlib.Core.List.{_++_};
 ghost use Prim.Native.Nat.{_+_, _-_, _*_, _/_, _≤_, _<_};
 ghost use lib.ListN.{length, getD};
 ghost use Rattle.laws.specs.Places.{tab, part};

@@ -9,7 +9,7 @@ use native.Mathlib.Omega.{arith}
 use lib.Dec.{T}
 use lib.Arith.{lt-one}
 use lib.Pow.{pow-pos, pow-lt, pow-mono, split}
-use lib.ListN.{length, getD, length-replicate, getD-replicate}
+use lib.ListN.{length-replicate, getD-replicate}
 use lib.Bits.{bitXor, xor-shifted, xor-zero-r}
 use Rattle.laws.specs.Places.{Each}
 use Rattle.laws.specs.Bytes.{Word, xorL}

@@ -1,11 +1,11 @@
 -- Words of 32 bits and their four bytes, the highest first: each way undoes the other, on lists of any length.
 use mathlib.Core.Path.{_≡_, refl, sym, ap, ap₂, _∙_}
 use mathlib.Core.List.{List, [], _∷_}
-use Prim.Native.Nat.{ℕ, zero, suc, _+_, _*_, _/_, _%_, _^_, _<_}
+use Prim.Native.Nat.{ℕ, zero, suc, _+_, _*_, _/_, _%_, _^_}
 use native.Mathlib.Omega.{arith}
 use lib.Bits.{bitXor, xor-block}
 use lib.ListN.{length, getD}
-use Rattle.laws.specs.Places.{tab, Each}
+use Rattle.laws.specs.Places.{Each}
 use Rattle.laws.specs.Bytes.{Byte, Bytes, Word, word, wordAt, wordsOf, bytesOf}
 use Rattle.laws.proofs.Places.{tabFrom-suc, tab-equal, each-tab, each-head, each-tail}
 use Rattle.laws.proofs.Words.{Words, word-at, words-each, each-words}

@@ -8,10 +8,9 @@ use native.Mathlib.Nat.{mod-lt, zero-lt-suc, pow-suc, div-lt-iff-lt-mul}
 use native.Mathlib.Omega.{arith}
 use lib.Dec.{T, eqb, eqb→eq}
 use lib.Arith.{lt-one}
-use lib.Pow.{pow-pos, ones-sub-lt}
+use lib.Pow.{ones-sub-lt}
 use lib.ListN.{length, getD, length-map, List·getD-map}
 use lib.Bits.{bitAnd, bitOr, bitXor, and-shr, or-shr, xor-shr, and-mod, or-mod, xor-mod, and-lt, or-lt, xor-lt}
-use Rattle.laws.specs.Bytes.{Word}
 use Rattle.laws.proofs.Test.{both, both-left, both-right}
 use Rattle.laws.proofs.Xor.{not-digit}
 use Rattle.laws.proofs.Words.{Words, word-at}

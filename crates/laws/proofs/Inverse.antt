@@ -2,12 +2,12 @@
 -- is then a term that follows its definition.
 use mathlib.Core.Path.{_≡_, refl, sym, ap, _∙_, subst}
 use mathlib.Core.List.{List}
-use Prim.Native.Nat.{ℕ, zero, suc, _≤_, _<_}
+use Prim.Native.Nat.{ℕ, zero, suc, _<_}
 use native.Mathlib.Nat.{le-suc, le-refl, le-trans}
 use lib.Bits.{bitXor, xor-lt}
-use lib.ListN.{length, getD}
+use lib.ListN.{getD}
 use Rattle.laws.specs.Places.{layer, Each}
-use Rattle.laws.specs.Bytes.{Word, Bytes, xorL}
+use Rattle.laws.specs.Bytes.{Word, xorL}
 use Rattle.laws.specs.Rounds.{steps, back}
 use Rattle.laws.specs.Inverse.{Inverse}
 use Rattle.laws.proofs.Xor.{xor-cancel-r}

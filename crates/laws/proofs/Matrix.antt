@@ -1,23 +1,22 @@
 -- Matrices over words: additive, and two of them undo one another where they do so on single bits, which antt computes. (A matrix of bits, over any values, is
 -- better solved by `Sums`.)
-use mathlib.Core.Path.{_≡_, refl, sym, ap, ap₂, _∙_, subst}
-use mathlib.Core.Bool.{Bool, true, false}
+use mathlib.Core.Path.{_≡_, refl, sym, ap, ap₂, _∙_}
+use mathlib.Core.Bool.{Bool, true}
 use mathlib.Core.List.{List, [], _∷_}
-use Prim.Native.Nat.{ℕ, zero, suc, _^_, _<_}
+use Prim.Native.Nat.{ℕ, zero, suc, _<_}
 use native.Mathlib.Nat.{le-suc, le-refl, le-trans}
 use lib.Dec.{T}
 use lib.Pow.{pow-pos}
-use lib.ListN.{length, getD}
+use lib.ListN.{getD}
 use lib.Bits.{bitXor, xor-lt}
-use Rattle.laws.specs.Places.{tab, Each}
+use Rattle.laws.specs.Places.{Each}
 use Rattle.laws.specs.Bytes.{Word, xorL}
-use Rattle.laws.specs.Rounds.{steps}
 use Rattle.laws.specs.Matrix.{total, pick, matrix}
 use Rattle.laws.specs.Inverse.{Inverse}
 use Rattle.laws.proofs.Test.{both, both-left, both-right, same}
 use Rattle.laws.proofs.Xor.{xor-swap}
 use Rattle.laws.proofs.Places.{getD-tab, tab-equal, each-tab}
-use Rattle.laws.proofs.Words.{Words, word-at, wordsTest, words-by}
+use Rattle.laws.proofs.Words.{word-at, wordsTest, words-by}
 use Rattle.laws.proofs.XorLists.{getD-xorL}
 use Rattle.laws.proofs.Rounds.{steps-keep}
 use Rattle.laws.proofs.Additive.{Additive, basisTest, lists-agree}

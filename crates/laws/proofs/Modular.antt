@@ -1,5 +1,5 @@
 -- Products and powers modulo m, and powers by squaring, which compute.
-use mathlib.Core.Path.{_≡_, sym, ap, ap₂, _∙_, subst}
+use mathlib.Core.Path.{_≡_, sym, ap, _∙_, subst}
 use Prim.Native.Nat.{ℕ, zero, suc, _+_, _*_, _/_, _%_, _^_, _<_}
 use native.Mathlib.Nat.{mul-comm, mul-assoc, mul-one, one-mul, mul-add-mod-self-right, div-add-mod', mod-lt, pow-zero, pow-suc, pow-succ', zero-lt-suc, div-lt-iff-lt-mul, mod-eq-of-lt, le-of-lt, lt-of-le-of-lt, mul-le-mul-left, mul-lt-mul-of-pos-right}
 use native.Mathlib.Omega.{arith}

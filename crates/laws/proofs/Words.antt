@@ -1,15 +1,14 @@
 -- Lists of words of w bits, of any length. By a computed test, and from and to `Bytes`.
-use mathlib.Core.Path.{_≡_, refl, sym, ap, _∙_, subst}
-use mathlib.Core.Bool.{Bool, true, false}
+use mathlib.Core.Path.{_≡_}
+use mathlib.Core.Bool.{Bool, true}
 use mathlib.Core.List.{List, [], _∷_, _++_}
-use Prim.Native.Nat.{ℕ, zero, suc, _+_, _^_, _<_}
-use native.Mathlib.Nat.{not-suc-le-zero}
+use Prim.Native.Nat.{ℕ, zero, suc, _+_, _^_}
 use native.Mathlib.Omega.{arith}
 use lib.Dec.{T, ltb, ltb→lt}
 use lib.Pow.{pow-pos}
 use lib.ListN.{length, getD, take, drop, length-append, length-drop}
 use lib.Seq.{length-take-le}
-use Rattle.laws.specs.Places.{tab, part, Each}
+use Rattle.laws.specs.Places.{part, Each}
 use Rattle.laws.specs.Bytes.{Word, Byte, Bytes}
 use Rattle.laws.proofs.Test.{both, both-left, both-right}
 use Rattle.laws.proofs.Places.{each-head, each-tail, each-tab}

@@ -1,10 +1,10 @@
 -- Xor on lists, n places of them.
-use mathlib.Core.Path.{_≡_, sym, ap, ap₂, _∙_}
-use mathlib.Core.List.{List, [], _∷_}
-use Prim.Native.Nat.{ℕ, zero, suc, _<_}
+use mathlib.Core.Path.{_≡_, sym, ap, _∙_}
+use mathlib.Core.List.{List, _∷_}
+use Prim.Native.Nat.{ℕ, suc, _<_}
 use lib.ListN.{length, getD, replicate, getD-replicate}
 use lib.Bits.{bitXor, xor-comm, xor-lt}
-use Rattle.laws.specs.Places.{tab, Each}
+use Rattle.laws.specs.Places.{Each}
 use Rattle.laws.specs.Bytes.{Word, Bytes, xorL}
 use Rattle.laws.proofs.Xor.{xor-assoc, xor-cancel-r}
 use Rattle.laws.proofs.Places.{length-tab, getD-tab, tab-is, tab-equal, tabFrom-suc, each-tab}

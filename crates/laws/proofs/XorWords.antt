@@ -6,7 +6,7 @@ use native.Mathlib.Omega.{arith}
 use lib.ListN.{getD}
 use lib.Bits.{bitXor}
 use Rattle.laws.specs.Places.{Each}
-use Rattle.laws.specs.Bytes.{Byte, Bytes, Word, xorL, word, wordAt, wordsOf, bytesOf}
+use Rattle.laws.specs.Bytes.{Bytes, Word, xorL, word, wordAt, wordsOf, bytesOf}
 use Rattle.laws.proofs.Places.{getD-tab, tab-equal}
 use Rattle.laws.proofs.Words.{byte-at}
 use Rattle.laws.proofs.XorLists.{getD-xorL, xorL-bytes}

@@ -1,5 +1,5 @@
 -- A square matrix of any coefficients times a column of any values that can be added: bits on bytes, bytes on bytes, matrices on columns.
-use mathlib.Core.List.{List, [], _∷_}
+use mathlib.Core.List.{List, []}
 use Prim.Native.Nat.{ℕ, zero, suc}
 use lib.ListN.{getD}
 use Rattle.laws.specs.Places.{tab}

@@ -1,6 +1,6 @@
 -- The marked cases hold. Each is computed; the inverse by squaring, since its plain power has 2^31 - 1 factors.
-use mathlib.Core.Path.{_≡_, refl, ap, _∙_}
-use mathlib.Core.List.{List, [], _∷_}
+use mathlib.Core.Path.{_≡_, refl, ap}
+use mathlib.Core.List.{[], _∷_}
 use Prim.Native.Nat.{ℕ}
 use Rattle.laws.specs.Field.{product, power}
 use Rattle.laws.proofs.OddInverse.{odd-inverse-computes}

@@ -2,20 +2,19 @@
 -- undo one another (003).
 use mathlib.Core.Path.{_≡_, refl, ap, ap₂, _∙_}
 use mathlib.Core.List.{List, [], _∷_}
-use Prim.Native.Nat.{ℕ, _+_, _*_, _/_, _%_, _^_, _<_}
+use Prim.Native.Nat.{ℕ, _*_, _/_, _%_, _^_}
 use native.Mathlib.Nat.{lt-of-le-of-lt, mod-lt}
 use lib.Pow.{pow-pos, shr-le}
 use lib.ListN.{getD}
 use lib.Bits.{bitXor, xor-lt, xor-shr}
-use Rattle.laws.specs.Places.{Each}
-use Rattle.laws.specs.Bytes.{Word, Bytes, wordAt, wordsOf, bytesOf}
+use Rattle.laws.specs.Bytes.{Word, Bytes}
 use Rattle.laws.specs.Rounds.{steps}
 use Rattle.laws.specs.Inverse.{Inverse}
 use Rattle.laws.proofs.Xor.{xor-shl-word, xor-swap}
 use Rattle.laws.proofs.Words.{Words, words-each, each-words}
 use Rattle.laws.proofs.BigEndian.{wordAt-lt, wordsOf-bytesOf, bytesOf-wordsOf, bytesOf-bytes}
 use Rattle.laws.proofs.Turn.{turn-lt, turn-undo}
-use Rattle.laws.proofs.Bitwise.{Expr, eval, by-bits, eval-lt}
+use Rattle.laws.proofs.Bitwise.{Expr, by-bits, eval-lt}
 use Rattle.laws.proofs.Bitwise.Expr.{var, not, and, or, xor}
 use Rattle.laws.proofs.Sums.{Sum, solve}
 use Rattle.laws.proofs.Sums.Sum.{at, zer, op, _⊕_}
