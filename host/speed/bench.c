@@ -10,7 +10,7 @@
 #include <valgrind/callgrind.h>
 
 /* Pieces of one byte take so long that they are run less often. */
-enum { REPEATS = 1000, BYTES_EVERY = 20 };
+enum { REPEATS = 100, BYTES_EVERY = 10 };
 
 static double now(void)
 {

@@ -1,8 +1,8 @@
 # Makes host/bench's lines of the amounts a block, WORK NAME AMOUNT: instructions in the first file, nanoseconds in
-# the second. `c-` stands before a work in C.
+# the second, of which the least counts. `c-` stands before a work in C.
 FNR == 1 { file++ }
-{ amount[file, $1, $2] = $3 }
-file == 2 && $1 == "blocks" { names[++n] = $2 }
+!((file, $1, $2) in amount) || $3 < amount[file, $1, $2] { amount[file, $1, $2] = $3 }
+file == 2 && $1 == "blocks" && !named[$2]++ { names[++n] = $2 }
 
 # The amount of a work and its ratio to another's, in nanoseconds and then in instructions. With `calls`, the amount
 # is what is beyond the other's, shared among so many calls to a block.
