@@ -1,5 +1,5 @@
--- Hierocrypt-3's operations: 002, section 3, in its names; 01 ('Hierocrypt-3') where its print is broken. A block is four columns of four bytes.
--- s and mds_L (sections 3.6 and 3.7) are defined in crates/hierocrypt3_tables.
+-- Hierocrypt-3 on a block of four columns of four bytes: 002, sections 3.2, 3.4 and 3.5, in its names. s and mds_L are defined in
+-- crates/hierocrypt3_tables, the operations of the key schedule in crates/hierocrypt3_keys.
 use mathlib.Core.List.{List, [], _∷_}
 use Prim.Native.Nat.{ℕ}
 use lib.Bits.{bitXor}

@@ -1,4 +1,4 @@
--- The bytes at hand: the first k of the held bytes h with a piece p behind them. What `byte_at`, `gather`, `block_of`, `behind` and `left_over` read of them.
+-- The bytes at hand: the first k of the held bytes h with a piece p behind them. What `byte_at`, `first_block`, `block_of`, `behind` and `left_over` read of them.
 use mathlib.Core.Bool.{true}
 use mathlib.Core.Path.{_≡_, sym, ap, _∙_}
 use mathlib.Core.List.{List, _++_, append-nil}
@@ -10,7 +10,6 @@ use lib.Seq.{length-take-le, getD-take, getD-append-add, drop-append-add, drop-d
 use Rattle.cipher.specs.Schedule.{zeros}
 use Rattle.cipher.proofs.Fill.{zeros-are, fill-next}
 use Rattle.stream.specs.State.{held15}
-use Rattle.stream.specs.Parts.{padded16}
 
 module _ (h p : List ℕ) (k : ℕ) (fits : k ≤ length h) where
   pub hand-length : length (take k h ++ p) ≡ k + length p
@@ -28,25 +27,14 @@ module _ (h p : List ℕ) (k : ℕ) (fits : k ≤ length h) where
       let m : j ≡ length (take k h) + (j - k) = omega arith in
       sym (ap (λ (n : ℕ). getD (take k h ++ p) n 0) m ∙ getD-append-add (take k h) p (j - k) 0)
 
--- ---- a turn of `gather`, and its end
-module _ (h p : List ℕ) (k at m : ℕ) (fits : k ≤ length h) (small : m ≤ 16) (there : at + m ≤ k + length p) where
-  pub gather-next : (i v : ℕ) → i < m → v ≡ getD (take k h ++ p) (at + i) 0
-      → set (take i (drop at (take k h ++ p)) ++ replicate (16 - i) 0) i v ≡ take (i + 1) (drop at (take k h ++ p)) ++ replicate (16 - (i + 1)) 0
-  gather-next i v l e =
-      let n = hand-length h p k fits in
-      let d = length-drop at (take k h ++ p) in
-      fill-next 16 (drop at (take k h ++ p)) i v (omega arith) (omega arith) (e ∙ sym (getD-drop at (take k h ++ p) i 0))
+-- ---- a turn of `first_block`, and its end
+module _ (h p : List ℕ) (k : ℕ) (fits : k ≤ length h) (whole : 16 ≤ k + length p) where
+  pub first-next : (i v : ℕ) → i < 16 → v ≡ getD (take k h ++ p) i 0
+      → set (take i (take k h ++ p) ++ replicate (16 - i) 0) i v ≡ take (i + 1) (take k h ++ p) ++ replicate (16 - (i + 1)) 0
+  first-next i v l e = let n = hand-length h p k fits in fill-next 16 (take k h ++ p) i v l (omega arith) e
 
-  pub gather-end : (i : ℕ) → i ≡ m → take i (drop at (take k h ++ p)) ++ replicate (16 - i) 0 ≡ padded16 (take m (drop at (take k h ++ p)))
-  gather-end i e =
-      let n = hand-length h p k fits in
-      let d = length-drop at (take k h ++ p) in
-      let t : length (take m (drop at (take k h ++ p))) ≡ m = length-take-le m (drop at (take k h ++ p)) (omega arith) in
-      rw (e, t)
-
--- ---- sixteen bytes have no zeros behind
-pub padded16-whole : (l : List ℕ) → length l ≡ 16 → padded16 l ≡ l
-padded16-whole l e = rw e (append-nil l)
+  pub first-end : (i : ℕ) → i ≡ 16 → take i (take k h ++ p) ++ replicate (16 - i) 0 ≡ take 16 (take k h ++ p)
+  first-end i e = rw e (append-nil (take 16 (take k h ++ p)))
 
 -- ---- fifteen places: the first i of x, and behind them a piece p from a place on
 module _ (x p : List ℕ) (i from : ℕ) (long : length x ≡ 15) (within : from ≤ length p) (fits : i + (length p - from) ≤ 15) where
@@ -117,11 +105,6 @@ module _ (f p : List ℕ) (from : ℕ) (whole : length f ≡ 16) where
 
 -- ---- the bytes at hand as such a message
 module _ (h p : List ℕ) (k : ℕ) (fits : k ≤ length h) where
-  pub first-of-hand : 16 ≤ k + length p → padded16 (take 16 (take k h ++ p)) ≡ take 16 (take k h ++ p)
-  first-of-hand there =
-      let n = hand-length h p k fits in
-      padded16-whole (take 16 (take k h ++ p)) (length-take-le 16 (take k h ++ p) (omega arith))
-
   pub hand-split : k ≤ 16 → take 16 (take k h ++ p) ++ drop (16 - k) p ≡ take k h ++ p
   hand-split le =
       let e : length (take k h) ≡ k = length-take-le k h fits in

@@ -10,7 +10,7 @@ ghost use Rattle.cipher.specs.Ciphers.{number, isLength, Forward, Backward};
 ghost use Rattle.cipher.specs.Schedule.{zeros};
 ghost use Rattle.cbc.specs.Cbc as cbc;
 ghost use Rattle.stream.specs.State.{held15};
-ghost use Rattle.stream.specs.Parts.{padded16, Ran};
+ghost use Rattle.stream.specs.Parts.{Ran};
 
 // The byte at a place of the held bytes with the piece behind them.
 fn byte_at(held: &[u8], kept: usize, piece: &[u8], j: usize) -> u8
@@ -20,15 +20,15 @@ fn byte_at(held: &[u8], kept: usize, piece: &[u8], j: usize) -> u8
     if j < kept { held[j] } else { piece[j - kept] }
 }
 
-// m bytes from a place on of the held bytes with the piece behind them, zeros behind.
-fn gather(held: &[u8], kept: usize, piece: &[u8], at: usize, m: usize) -> [u8; 16]
-    requires { ⌜ (kept ≤ length (now held)) × (m ≤ 16) × (at + m ≤ kept + length (now piece)) ⌝ }
-    ensures { λ r. ⌜ r ≡ padded16 (take m (drop at (take kept (now (held .entry)) ++ now (piece .entry)))) ⌝ }
+// The first block of the held bytes with the piece behind them.
+fn first_block(held: &[u8], kept: usize, piece: &[u8]) -> [u8; 16]
+    requires { ⌜ (kept ≤ length (now held)) × (16 ≤ kept + length (now piece)) ⌝ }
+    ensures { λ r. ⌜ r ≡ take 16 (take kept (now (held .entry)) ++ now (piece .entry)) ⌝ }
 {
     let mut x = [0u8; 16];
     let mut i = 0;
-    while i < m {
-        x[i] = byte_at(held, kept, piece, at + i);
+    while i < 16 {
+        x[i] = byte_at(held, kept, piece, i);
         i += 1;
     }
     x
@@ -158,7 +158,7 @@ fn run_with(
     let keys = schedule.round_keys;
     let held = s.held;
     let kept = (s.count % 16) as usize;
-    let first = gather(&held, kept, piece, 0, 16);
+    let first = first_block(&held, kept, piece);
     let mut chain = s.chain;
     let mut j = 0;
     while j < n {

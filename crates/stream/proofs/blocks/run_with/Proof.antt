@@ -6,7 +6,7 @@ use borrow.Author.Needs.{needs}
 use lib.ListN.{length, drop}
 use Rattle.cipher.specs.Schedule.{enciphered, deciphered}
 use Rattle.cbc.proofs.Loop.{Running, running-start, running-length, running-next}
-use Rattle.stream.proofs.Hand.{first-of-hand, hand-split}
+use Rattle.stream.proofs.Hand.{hand-split}
 use Rattle.stream.proofs.blocks.run_with.Statement.{statement}
 use Rattle.stream.proofs.blocks.run_with.Tie as tie
 
@@ -20,11 +20,11 @@ abbrev μ-loop : tie.MeasureT-loop
 held-15 : (c : tie.Start Inv-loop μ-loop) → length (c .args .s .held) ≡ 15
 held-15 c = search needs
 
-slice-aggregate-gather : tie.Need-slice-aggregate-gather Inv-loop μ-loop
-slice-aggregate-gather c = search needs
+slice-aggregate-first-block : tie.Need-slice-aggregate-first-block Inv-loop μ-loop
+slice-aggregate-first-block c = search needs
 
-gather-requires : tie.Need-gather-requires Inv-loop μ-loop
-gather-requires c κs =
+first-block-requires : tie.Need-first-block-requires Inv-loop μ-loop
+first-block-requires c κs =
     let l = held-15 (c .before .before .before .before .before .before .before) in
     let p = c .before .before .before .before .before .before .before .pre in
     omega arith
@@ -85,7 +85,7 @@ returns c =
     let p = c .before .before .before .before .before .before .before .before .before .before .before .pre in
     let l = held-15 (c .before .before .before .before .before .before .before .before .before .before .before) in
     let e : c .before .loop .j ≡ a .n = omega arith in
-    let f = c .before .before .before .gather .ensures ∙ first-of-hand (a .s .held) (a .piece .now) (a .s .count % 16) (omega arith) (omega arith) in
+    let f = c .before .before .before .first-block .ensures in
     let w = ap (λ (x : List ℕ). x ++ drop (16 - a .s .count % 16) (a .piece .now)) f ∙ hand-split (a .s .held) (a .piece .now) (a .s .count % 16) (omega arith) (omega arith) in
     let r = rw (w, e) at (c .before .loop .inv .1) in
     record { last-is = r .last-is; out-is = r .now-is }
@@ -96,8 +96,8 @@ run-with-spec =
     (tie.spec
     Inv-loop
     μ-loop
-    slice-aggregate-gather
-    gather-requires
+    slice-aggregate-first-block
+    first-block-requires
     loop-holds
     mul-at
     sub-block-of
