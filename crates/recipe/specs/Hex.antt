@@ -1,27 +1,40 @@
 -- A text of hex digits: two to a byte, the first the higher, white space ignored. Characters are ASCII numbers.
 use mathlib.Core.Path.{_≡_}
-use mathlib.Core.Bool.{Bool, true, false}
+use mathlib.Core.Bool.{Bool, false}
 use mathlib.Core.List.{List, [], _∷_}
-use Prim.Native.Nat.{ℕ, suc, _+_, _*_, _-_, _/_, _≤_, _<_}
+use Prim.Native.Nat.{ℕ, suc, _+_, _*_, _/_, _≤_, _<_}
 use lib.Dec.{eqb, ltb}
 use lib.ListN.{length, getD, take}
 use Rattle.io.specs.Counts.{Counts}
 use Rattle.laws.specs.Choice.{choose}
 use Rattle.laws.specs.Places.{tab}
 
--- a space, or one of the five from tab to carriage return
-unfoldable pub white : ℕ → Bool
-white c = choose (eqb c 32) true (choose (ltb c 9) false (ltb c 14))
+-- the place of a character in a list, or the list's length
+abbrev pub place : ℕ → List ℕ → ℕ
+place c [] = 0
+place c (x ∷ xs) = choose (eqb c x) 0 (suc (place c xs))
 
--- the value of 0 to 9, A to F or a to f, and 16 of every other character
+-- tab, line feed, vertical tab, form feed, carriage return, space
+abbrev pub spaces : List ℕ
+spaces = 9 ∷ 10 ∷ 11 ∷ 12 ∷ 13 ∷ 32 ∷ []
+
+-- 0 to 9, then A to F; and then a to f
+abbrev pub capitals : List ℕ
+capitals =
+    0x30 ∷ 0x31 ∷ 0x32 ∷ 0x33 ∷ 0x34 ∷ 0x35 ∷ 0x36 ∷ 0x37 ∷ 0x38 ∷ 0x39
+    ∷ 0x41 ∷ 0x42 ∷ 0x43 ∷ 0x44 ∷ 0x45 ∷ 0x46 ∷ []
+
+abbrev pub smalls : List ℕ
+smalls =
+    0x30 ∷ 0x31 ∷ 0x32 ∷ 0x33 ∷ 0x34 ∷ 0x35 ∷ 0x36 ∷ 0x37 ∷ 0x38 ∷ 0x39
+    ∷ 0x61 ∷ 0x62 ∷ 0x63 ∷ 0x64 ∷ 0x65 ∷ 0x66 ∷ []
+
+unfoldable pub white : ℕ → Bool
+white c = ltb (place c spaces) 6
+
+-- a digit's value is its place, and that of every other character is 16
 unfoldable pub value : ℕ → ℕ
-value c =
-    choose (ltb c 48) 16
-    (choose (ltb c 58) (c - 48)
-    (choose (ltb c 65) 16
-    (choose (ltb c 71) (c - 65 + 10)
-    (choose (ltb c 97) 16
-    (choose (ltb c 103) (c - 97 + 10) 16)))))
+value c = choose (ltb (place c capitals) 16) (place c capitals) (place c smalls)
 
 -- neither white space nor a digit
 unfoldable pub bad : ℕ → Bool
