@@ -1,0 +1,3 @@
+pub mod KeyLength
+pub mod Word
+pub mod Zeros

@@ -1,0 +1,104 @@
+// Runs of bytes: read from a slice, written to one, xored, and a tail of zeros.
+ghost use mathlib.Core.Path.{_≡_};
+ghost use mathlib.Core.List.{_++_};
+ghost use Prim.Native.Nat.{_+_, _≤_};
+ghost use lib.ListN.{length, take, drop};
+ghost use Rattle.laws.specs.Bytes.{xorL};
+ghost use Rattle.laws.specs.Places.{part};
+ghost use Rattle.words.specs.Zeros.{zeros};
+
+// Is every byte from a place on zero? It looks at all of them, which compiles to wide ors.
+pub fn zero_from(bytes: &[u8], from: usize) -> bool
+    ensures { λ r. ⌜ r ≡ zeros (drop from (now (bytes .entry))) ⌝ }
+{
+    let mut any: u8 = 0;
+    let mut i = from;
+    while i < bytes.len() {
+        any = any | bytes[i];
+        i += 1;
+    }
+    any == 0
+}
+
+// The eight bytes from a place on.
+pub fn eight(bytes: &[u8], at: usize) -> [u8; 8]
+    requires { ⌜ at + 8 ≤ length (now bytes) ⌝ }
+    ensures { λ r. ⌜ r ≡ part 0 at 8 (now (bytes .entry)) ⌝ }
+{
+    [
+        bytes[at],
+        bytes[at + 1],
+        bytes[at + 2],
+        bytes[at + 3],
+        bytes[at + 4],
+        bytes[at + 5],
+        bytes[at + 6],
+        bytes[at + 7],
+    ]
+}
+
+// The block, 16 bytes, from a place on.
+pub fn block_at(bytes: &[u8], at: usize) -> [u8; 16]
+    requires { ⌜ at + 16 ≤ length (now bytes) ⌝ }
+    ensures { λ r. ⌜ r ≡ take 16 (drop at (now (bytes .entry))) ⌝ }
+{
+    let mut x = [0u8; 16];
+    let mut i = 0;
+    while i < 16 {
+        x[i] = bytes[at + i];
+        i += 1;
+    }
+    x
+}
+
+// A block put into the output at a place.
+pub fn store(out: &mut [u8], at: usize, block: [u8; 16])
+    requires { ⌜ at + 16 ≤ length (now out) ⌝ }
+    ensures { λ r. ⌜ now (out .exit) ≡ take at (now (out .entry)) ++ block ++ drop (at + 16) (now (out .entry)) ⌝ }
+{
+    let mut i = 0;
+    while i < 16 {
+        out[at + i] = block[i];
+        i += 1;
+    }
+}
+
+// Eight bytes xored with eight.
+pub fn xor8(a: [u8; 8], b: [u8; 8]) -> [u8; 8]
+    ensures { λ r. ⌜ r ≡ xorL 8 a b ⌝ }
+{
+    [
+        a[0] ^ b[0],
+        a[1] ^ b[1],
+        a[2] ^ b[2],
+        a[3] ^ b[3],
+        a[4] ^ b[4],
+        a[5] ^ b[5],
+        a[6] ^ b[6],
+        a[7] ^ b[7],
+    ]
+}
+
+// A block xored with another.
+pub fn xor16(a: [u8; 16], b: [u8; 16]) -> [u8; 16]
+    ensures { λ r. ⌜ r ≡ xorL 16 a b ⌝ }
+{
+    [
+        a[0] ^ b[0],
+        a[1] ^ b[1],
+        a[2] ^ b[2],
+        a[3] ^ b[3],
+        a[4] ^ b[4],
+        a[5] ^ b[5],
+        a[6] ^ b[6],
+        a[7] ^ b[7],
+        a[8] ^ b[8],
+        a[9] ^ b[9],
+        a[10] ^ b[10],
+        a[11] ^ b[11],
+        a[12] ^ b[12],
+        a[13] ^ b[13],
+        a[14] ^ b[14],
+        a[15] ^ b[15],
+    ]
+}
