@@ -10,7 +10,7 @@ use lib.ListN.{length, take, drop, length-drop}
 use lib.Seq.{take-append-le, drop-append-le, drop-drop}
 use Rattle.laws.specs.Choice.{choose}
 use Rattle.laws.specs.Bytes.{xorL}
-use Rattle.cbc.specs.Cbc.{enciphered, deciphered, lastOr, out, chain, join, blocks}
+use Rattle.cbc.specs.Cbc.{cbcEncryption, cbcDecryption, lastOr, out, chain, join, blocks}
 
 -- ---- lists of blocks
 pub join-append : (a b : List (List ℕ)) → join (a ++ b) ≡ join a ++ join b
@@ -42,39 +42,39 @@ blocks-append (suc n) a b h =
 
 -- ---- CBC of two parts: the second goes on from the chain block behind the first
 module _ (E D : List ℕ → List ℕ) where
-  enciphered-append : (c : List ℕ) (a b : List (List ℕ)) → enciphered E c (a ++ b) ≡ enciphered E c a ++ enciphered E (lastOr c (enciphered E c a)) b
-  enciphered-append c [] b = refl
-  enciphered-append c (x ∷ a) b = ap (λ (r : List (List ℕ)). E (xorL 16 x c) ∷ r) (enciphered-append (E (xorL 16 x c)) a b)
+  encryption-append : (c : List ℕ) (a b : List (List ℕ)) → cbcEncryption E c (a ++ b) ≡ cbcEncryption E c a ++ cbcEncryption E (lastOr c (cbcEncryption E c a)) b
+  encryption-append c [] b = refl
+  encryption-append c (x ∷ a) b = ap (λ (r : List (List ℕ)). E (xorL 16 x c) ∷ r) (encryption-append (E (xorL 16 x c)) a b)
 
-  deciphered-append : (c : List ℕ) (a b : List (List ℕ)) → deciphered D c (a ++ b) ≡ deciphered D c a ++ deciphered D (lastOr c a) b
-  deciphered-append c [] b = refl
-  deciphered-append c (x ∷ a) b = ap (λ (r : List (List ℕ)). xorL 16 (D x) c ∷ r) (deciphered-append x a b)
+  decryption-append : (c : List ℕ) (a b : List (List ℕ)) → cbcDecryption D c (a ++ b) ≡ cbcDecryption D c a ++ cbcDecryption D (lastOr c a) b
+  decryption-append c [] b = refl
+  decryption-append c (x ∷ a) b = ap (λ (r : List (List ℕ)). xorL 16 (D x) c ∷ r) (decryption-append x a b)
 
   pub out-append : (d : ℕ) (c : List ℕ) (a b : List (List ℕ)) → out E D d c (a ++ b) ≡ out E D d c a ++ out E D d (chain E d c a) b
   unfolding out chain
   out-append d c a b = go (eqb d 1)
     where
-      go : (t : Bool) → choose t (enciphered E c (a ++ b)) (deciphered D c (a ++ b))
-          ≡ choose t (enciphered E c a) (deciphered D c a)
-          ++ choose t (enciphered E (choose t (lastOr c (enciphered E c a)) (lastOr c a)) b) (deciphered D (choose t (lastOr c (enciphered E c a)) (lastOr c a)) b)
-      go true = enciphered-append c a b
-      go false = deciphered-append c a b
+      go : (t : Bool) → choose t (cbcEncryption E c (a ++ b)) (cbcDecryption D c (a ++ b))
+          ≡ choose t (cbcEncryption E c a) (cbcDecryption D c a)
+          ++ choose t (cbcEncryption E (choose t (lastOr c (cbcEncryption E c a)) (lastOr c a)) b) (cbcDecryption D (choose t (lastOr c (cbcEncryption E c a)) (lastOr c a)) b)
+      go true = encryption-append c a b
+      go false = decryption-append c a b
 
   pub chain-append : (d : ℕ) (c : List ℕ) (a b : List (List ℕ)) → chain E d c (a ++ b) ≡ chain E d (chain E d c a) b
   unfolding chain
   chain-append d c a b = go (eqb d 1)
     where
-      go : (t : Bool) → choose t (lastOr c (enciphered E c (a ++ b))) (lastOr c (a ++ b))
-          ≡ choose t (lastOr (choose t (lastOr c (enciphered E c a)) (lastOr c a)) (enciphered E (choose t (lastOr c (enciphered E c a)) (lastOr c a)) b))
-          (lastOr (choose t (lastOr c (enciphered E c a)) (lastOr c a)) b)
-      go true = ap (lastOr c) (enciphered-append c a b) ∙ last-append c (enciphered E c a) (enciphered E (lastOr c (enciphered E c a)) b)
+      go : (t : Bool) → choose t (lastOr c (cbcEncryption E c (a ++ b))) (lastOr c (a ++ b))
+          ≡ choose t (lastOr (choose t (lastOr c (cbcEncryption E c a)) (lastOr c a)) (cbcEncryption E (choose t (lastOr c (cbcEncryption E c a)) (lastOr c a)) b))
+          (lastOr (choose t (lastOr c (cbcEncryption E c a)) (lastOr c a)) b)
+      go true = ap (lastOr c) (encryption-append c a b) ∙ last-append c (cbcEncryption E c a) (cbcEncryption E (lastOr c (cbcEncryption E c a)) b)
       go false = last-append c a b
 
   pub out-none : (d : ℕ) (c : List ℕ) → out E D d c [] ≡ []
   unfolding out
   out-none d c = go (eqb d 1)
     where
-      go : (t : Bool) → choose t (enciphered E c []) (deciphered D c []) ≡ []
+      go : (t : Bool) → choose t (cbcEncryption E c []) (cbcDecryption D c []) ≡ []
       go true = refl
       go false = refl
 

@@ -13,7 +13,7 @@ use Rattle.laws.specs.Bytes.{Bytes, xorL}
 use Rattle.laws.specs.Inverse.{Inverse}
 use Rattle.laws.proofs.Words.{Words, words-take, words-drop, each-words}
 use Rattle.laws.proofs.XorLists.{xorL-bytes, xorL-cancel-r}
-use Rattle.cbc.specs.Cbc.{enciphered, deciphered, lastOr, out, chain, join, blocks, whole, answer, Blocks}
+use Rattle.cbc.specs.Cbc.{cbcEncryption, cbcDecryption, lastOr, out, chain, join, blocks, whole, answer, Blocks}
 
 -- ---- bytes to blocks and back
 pub blocks-are : (n : ℕ) (l : List ℕ) → 16 * n ≤ length l → Words 8 l → Blocks (blocks n l)
@@ -49,50 +49,30 @@ join-blocks (suc n) l =
 
 -- ---- blocks in, blocks out
 module _ (E D : List ℕ → List ℕ) (v : Inverse (Bytes 16) E D) where
-  enciphered-blocks : (c : List ℕ) (ps : List (List ℕ)) → Bytes 16 c → Blocks ps → Blocks (enciphered E c ps)
-  enciphered-blocks c [] hc hp = tt
-  enciphered-blocks c (p ∷ ps) hc hp =
-      let b = v .on (xorL 16 p c) (xorL-bytes 16 p c (hp .0) hc) in (b, enciphered-blocks (E (xorL 16 p c)) ps b (hp .1))
+  encryption-blocks : (c : List ℕ) (ps : List (List ℕ)) → Bytes 16 c → Blocks ps → Blocks (cbcEncryption E c ps)
+  encryption-blocks c [] hc hp = tt
+  encryption-blocks c (p ∷ ps) hc hp =
+      let b = v .on (xorL 16 p c) (xorL-bytes 16 p c (hp .0) hc) in (b, encryption-blocks (E (xorL 16 p c)) ps b (hp .1))
 
-  deciphered-blocks : (c : List ℕ) (xs : List (List ℕ)) → Bytes 16 c → Blocks xs → Blocks (deciphered D c xs)
-  deciphered-blocks c [] hc hx = tt
-  deciphered-blocks c (x ∷ xs) hc hx = (xorL-bytes 16 (D x) c (v .off x (hx .0)) hc, deciphered-blocks x xs (hx .0) (hx .1))
-
-  last-block : (c : List ℕ) (bs : List (List ℕ)) → Bytes 16 c → Blocks bs → Bytes 16 (lastOr c bs)
-  last-block c [] hc h = hc
-  last-block c (b ∷ bs) hc h = last-block b bs (h .0) (h .1)
-
-  pub out-blocks : (d : ℕ) (c : List ℕ) (bs : List (List ℕ)) → Bytes 16 c → Blocks bs → Blocks (out E D d c bs)
-  unfolding out
-  out-blocks d c bs hc h = go (eqb d 1)
-    where
-      go : (t : Bool) → Blocks (choose t (enciphered E c bs) (deciphered D c bs))
-      go true = enciphered-blocks c bs hc h
-      go false = deciphered-blocks c bs hc h
-
-  pub chain-block : (d : ℕ) (c : List ℕ) (bs : List (List ℕ)) → Bytes 16 c → Blocks bs → Bytes 16 (chain E d c bs)
-  unfolding chain
-  chain-block d c bs hc h = go (eqb d 1)
-    where
-      go : (t : Bool) → Bytes 16 (choose t (lastOr c (enciphered E c bs)) (lastOr c bs))
-      go true = last-block c (enciphered E c bs) hc (enciphered-blocks c bs hc h)
-      go false = last-block c bs hc h
+  decryption-blocks : (c : List ℕ) (xs : List (List ℕ)) → Bytes 16 c → Blocks xs → Blocks (cbcDecryption D c xs)
+  decryption-blocks c [] hc hx = tt
+  decryption-blocks c (x ∷ xs) hc hx = (xorL-bytes 16 (D x) c (v .off x (hx .0)) hc, decryption-blocks x xs (hx .0) (hx .1))
 
   -- ---- undone, block by block
-  deciphered-enciphered : (c : List ℕ) (ps : List (List ℕ)) → Bytes 16 c → Blocks ps → deciphered D c (enciphered E c ps) ≡ ps
-  deciphered-enciphered c [] hc hp = refl
-  deciphered-enciphered c (p ∷ ps) hc hp =
+  decryption-encryption : (c : List ℕ) (ps : List (List ℕ)) → Bytes 16 c → Blocks ps → cbcDecryption D c (cbcEncryption E c ps) ≡ ps
+  decryption-encryption c [] hc hp = refl
+  decryption-encryption c (p ∷ ps) hc hp =
       let x = xorL-bytes 16 p c (hp .0) hc in
       ap₂ (λ (y : List ℕ) (r : List (List ℕ)). y ∷ r)
       (ap (λ (y : List ℕ). xorL 16 y c) (v .undo (xorL 16 p c) x) ∙ xorL-cancel-r 16 p c (hp .0 .long))
-      (deciphered-enciphered (E (xorL 16 p c)) ps (v .on (xorL 16 p c) x) (hp .1))
+      (decryption-encryption (E (xorL 16 p c)) ps (v .on (xorL 16 p c) x) (hp .1))
 
-  enciphered-deciphered : (c : List ℕ) (xs : List (List ℕ)) → Bytes 16 c → Blocks xs → enciphered E c (deciphered D c xs) ≡ xs
-  enciphered-deciphered c [] hc hx = refl
-  enciphered-deciphered c (x ∷ xs) hc hx =
+  encryption-decryption : (c : List ℕ) (xs : List (List ℕ)) → Bytes 16 c → Blocks xs → cbcEncryption E c (cbcDecryption D c xs) ≡ xs
+  encryption-decryption c [] hc hx = refl
+  encryption-decryption c (x ∷ xs) hc hx =
       let e : E (xorL 16 (xorL 16 (D x) c) c) ≡ x = ap E (xorL-cancel-r 16 (D x) c (v .off x (hx .0) .long)) ∙ v .redo x (hx .0) in
-      ap (λ (y : List ℕ). y ∷ enciphered E y (deciphered D x xs)) e
-      ∙ ap (λ (r : List (List ℕ)). x ∷ r) (enciphered-deciphered x xs (hx .0) (hx .1))
+      ap (λ (y : List ℕ). y ∷ cbcEncryption E y (cbcDecryption D x xs)) e
+      ∙ ap (λ (r : List (List ℕ)). x ∷ r) (encryption-decryption x xs (hx .0) (hx .1))
 
   -- ---- undone, as messages: the whole blocks come back
   module _ (c l : List ℕ) (hc : Bytes 16 c) (hl : Words 8 l) where
@@ -102,11 +82,11 @@ module _ (E D : List ℕ → List ℕ) (v : Inverse (Bytes 16) E D) where
     pub message-undo : answer E D 2 c (answer E D 1 c l) ≡ take (16 * (length l / 16)) l
     unfolding answer out
     message-undo =
-        ap (λ (bs : List (List ℕ)). join (deciphered D c bs)) (whole-join (enciphered E c (whole l)) (enciphered-blocks c (whole l) hc its-blocks))
-        ∙ ap join (deciphered-enciphered c (whole l) hc its-blocks) ∙ join-blocks (length l / 16) l
+        ap (λ (bs : List (List ℕ)). join (cbcDecryption D c bs)) (whole-join (cbcEncryption E c (whole l)) (encryption-blocks c (whole l) hc its-blocks))
+        ∙ ap join (decryption-encryption c (whole l) hc its-blocks) ∙ join-blocks (length l / 16) l
 
     pub message-redo : answer E D 1 c (answer E D 2 c l) ≡ take (16 * (length l / 16)) l
     unfolding answer out
     message-redo =
-        ap (λ (bs : List (List ℕ)). join (enciphered E c bs)) (whole-join (deciphered D c (whole l)) (deciphered-blocks c (whole l) hc its-blocks))
-        ∙ ap join (enciphered-deciphered c (whole l) hc its-blocks) ∙ join-blocks (length l / 16) l
+        ap (λ (bs : List (List ℕ)). join (cbcEncryption E c bs)) (whole-join (cbcDecryption D c (whole l)) (decryption-blocks c (whole l) hc its-blocks))
+        ∙ ap join (encryption-decryption c (whole l) hc its-blocks) ∙ join-blocks (length l / 16) l

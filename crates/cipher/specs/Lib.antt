@@ -1,3 +1,3 @@
-pub mod Ciphers
 pub mod Schedule
 pub mod Calls
+pub mod Promises

@@ -1,18 +1,18 @@
 -- The key schedule: 01, 'The two records'.
-use mathlib.Core.Bool.{Bool, true, false, not}
-use mathlib.Core.List.{List, [], _∷_}
+use mathlib.Core.Bool.{Bool, true, not}
+use mathlib.Core.List.{List}
 use Prim.Native.Nat.{ℕ}
 use lib.Dec.{eqb}
-use lib.ListN.{drop, getD}
+use lib.ListN.{drop}
 use Rattle.laws.specs.Choice.{choose}
 use Rattle.laws.specs.Places.{tab}
-use Rattle.cipher.specs.Ciphers.{number, isCipher, isLength}
+use Rattle.words.specs.Zeros.{zeros}
+use Rattle.cipher_numbers.specs.Ciphers.{number, isCipher, isLength}
 use Rattle.cipher.specs.declared.Schedule.{Schedule}
 
--- every byte is zero
-abbrev pub zeros : List ℕ → Bool
-zeros [] = true
-zeros (x ∷ xs) = choose (eqb x 0) (zeros xs) false
+-- a schedule of these parts
+abbrev pub scheduleOf : List ℕ → (cipher length : ℕ) → Schedule
+scheduleOf keys n len = record { «round_keys» = keys; cipher = n; «key_length» = len }
 
 -- the number or the length is illegal, or a byte behind the used ones isn't zero
 unfoldable pub bad : Schedule → Bool
@@ -23,11 +23,7 @@ bad s =
 
 -- what a refused set-up returns
 abbrev pub zeroSchedule : Schedule
-zeroSchedule = record { «round_keys» = tab 288 (λ n. 0); cipher = 0; «key_length» = 0 }
-
--- 288 bytes: these, and zeros
-abbrev pub padded : List ℕ → List ℕ
-padded keys = tab 288 (λ n. getD keys n 0)
+zeroSchedule = scheduleOf (tab 288 (λ n. 0)) 0 0
 
 -- one block under a schedule
 unfoldable pub enciphered : Schedule → List ℕ → List ℕ
@@ -35,3 +31,7 @@ enciphered s x = number (s .cipher) .encipher (s .«key_length») (s .«round_ke
 
 unfoldable pub deciphered : Schedule → List ℕ → List ℕ
 deciphered s x = number (s .cipher) .decipher (s .«key_length») (s .«round_keys») x
+
+-- in a direction: 1 enciphers, any other deciphers
+abbrev pub inDirection : ℕ → Schedule → List ℕ → List ℕ
+inDirection d s x = choose (eqb d 1) (enciphered s x) (deciphered s x)

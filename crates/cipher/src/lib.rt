@@ -1,11 +1,11 @@
 // Whichever cipher: the schedule record, set-up and one block (01, 'The two records' and 'Refusal numbers').
-pub mod bytes;
-pub mod ciphers;
-
+use cipher_blocks::alone;
+use cipher_blocks::chain::Way;
 ghost use mathlib.Core.Path.{_≡_};
 ghost use lib.ListN.{length};
-ghost use Rattle.cipher.specs.Schedule.{bad, enciphered, deciphered};
-ghost use Rattle.cipher.specs.Calls.{setUp, refusedSetUp, blockRefusal, blockOut};
+ghost use Rattle.cipher.specs.Schedule.{scheduleOf, bad, zeroSchedule, inDirection};
+ghost use Rattle.cipher.specs.Calls.{setUpAs, blockRefusal};
+ghost use Rattle.cipher.specs.Promises.{SetsUp, WorksBlock, EnciphersBlock, DeciphersBlock};
 
 pub struct Schedule {
     pub round_keys: [u8; 288],
@@ -18,51 +18,58 @@ pub struct SetUp {
     pub schedule: Schedule,
 }
 
-// Is a schedule bad? Its round keys are lent, and not copied then.
-pub fn bad_with(keys: &[u8; 288], cipher: u8, key_length: u8) -> bool
-    ensures { λ r. ⌜ r ≡ bad (record { «round_keys» = now (keys .entry); cipher = cipher; «key_length» = «key_length» }) ⌝ }
+// Is the schedule of these parts bad? Its round keys are lent, and not copied then.
+pub fn is_bad(keys: &[u8; 288], cipher: u8, key_length: u8) -> bool
+    ensures { λ r. ⌜ r ≡ bad (scheduleOf (now (keys .entry)) cipher «key_length») ⌝ }
 {
     let cipher = cipher as u64;
     let length = key_length as usize;
-    if !ciphers::is_cipher(cipher) {
+    if !cipher_numbers::is_cipher(cipher) {
         return true;
     }
-    if !ciphers::is_length(cipher, length) {
+    if !cipher_numbers::is_length(cipher, length) {
         return true;
     }
-    !bytes::zero_from(keys, ciphers::used(cipher, length))
+    !cipher_numbers::rest_is_zero(keys, cipher, length)
 }
 
 // Is the schedule bad?
 pub fn bad_schedule(s: Schedule) -> bool
     ensures { λ r. ⌜ r ≡ bad s ⌝ }
 {
-    bad_with(&s.round_keys, s.cipher, s.key_length)
+    is_bad(&s.round_keys, s.cipher, s.key_length)
 }
 
-// The all-zero schedule, beside a refusal.
-fn refused(answer: u8) -> SetUp
-    ensures { λ r. ⌜ r ≡ refusedSetUp answer ⌝ }
+// The all-zero schedule.
+pub fn no_schedule() -> Schedule
+    ensures { λ r. ⌜ r ≡ zeroSchedule ⌝ }
 {
-    let schedule = Schedule {
+    Schedule {
         round_keys: [0u8; 288],
         cipher: 0,
         key_length: 0,
-    };
+    }
+}
+
+// A refused set-up.
+fn refused(answer: u8) -> SetUp
+    ensures { λ r. ⌜ r ≡ setUpAs answer zeroSchedule ⌝ }
+{
+    let schedule = no_schedule();
     SetUp { answer, schedule }
 }
 
 // The schedule of a key, for the cipher of a number.
 pub fn set_up(cipher: u64, key: &[u8]) -> SetUp
-    ensures { λ r. ⌜ r ≡ setUp cipher (now (key .entry)) ⌝ }
+    ensures { λ r. ⌜ SetsUp cipher (now (key .entry)) r ⌝ }
 {
-    if !ciphers::is_cipher(cipher) {
+    if !cipher_numbers::is_cipher(cipher) {
         return refused(refusals::UNKNOWN_CIPHER);
     }
-    if !ciphers::is_length(cipher, key.len()) {
+    if !cipher_numbers::is_length(cipher, key.len()) {
         return refused(refusals::KEY_LENGTH);
     }
-    let round_keys = ciphers::round_keys(cipher, key);
+    let round_keys = cipher_numbers::round_keys(cipher, key);
     let schedule = Schedule {
         round_keys: round_keys,
         cipher: (cipher % 256) as u8,
@@ -75,13 +82,13 @@ pub fn set_up(cipher: u64, key: &[u8]) -> SetUp
 }
 
 // The refusal of one block of that length, with that room, or 0.
-fn block_refusal(s: Schedule, block: &[u8], room: usize) -> u8
-    ensures { λ r. ⌜ r ≡ blockRefusal s (now (block .entry)) room ⌝ }
+fn block_refusal(s: Schedule, block: usize, room: usize) -> u8
+    ensures { λ r. ⌜ r ≡ blockRefusal s block room ⌝ }
 {
     if bad_schedule(s) {
         return refusals::BAD_SCHEDULE;
     }
-    if block.len() != 16 {
+    if block != 16 {
         return refusals::BLOCK_LENGTH;
     }
     if room < 16 {
@@ -90,32 +97,33 @@ fn block_refusal(s: Schedule, block: &[u8], room: usize) -> u8
     refusals::DONE
 }
 
-// One block enciphered to the front of the output.
-pub fn encipher_block(s: Schedule, block: &[u8], out: &mut [u8]) -> u8
-    ensures { λ r. ⌜ (r ≡ blockRefusal s (now (block .entry)) (length (now (out .entry))))
-        × (now (out .exit) ≡ blockOut enciphered s (now (block .entry)) (now (out .entry))) ⌝ }
+// One block in a direction to the front of the output.
+fn one_block(direction: u64, s: Schedule, block: &[u8], out: &mut [u8]) -> u8
+    ensures { λ r. ⌜ WorksBlock (inDirection direction) s (now (block .entry)) (now (out .entry)) r (now (out .exit)) ⌝ }
 {
-    let no = block_refusal(s, block, out.len());
+    let no = block_refusal(s, block.len(), out.len());
     if no != refusals::DONE {
         return no;
     }
-    let x = bytes::block_at(block, 0);
-    let y = ciphers::encipher(&s.round_keys, s.cipher, s.key_length, x);
-    bytes::store(out, 0, y);
+    let way = Way {
+        cipher: s.cipher as u64,
+        length: s.key_length as usize,
+        direction,
+    };
+    alone::run(&s.round_keys, way, block, out, 1);
     refusals::DONE
+}
+
+// One block enciphered to the front of the output.
+pub fn encipher_block(s: Schedule, block: &[u8], out: &mut [u8]) -> u8
+    ensures { λ r. ⌜ EnciphersBlock s (now (block .entry)) (now (out .entry)) r (now (out .exit)) ⌝ }
+{
+    one_block(cipher_numbers::ENCIPHER, s, block, out)
 }
 
 // One block deciphered to the front of the output.
 pub fn decipher_block(s: Schedule, block: &[u8], out: &mut [u8]) -> u8
-    ensures { λ r. ⌜ (r ≡ blockRefusal s (now (block .entry)) (length (now (out .entry))))
-        × (now (out .exit) ≡ blockOut deciphered s (now (block .entry)) (now (out .entry))) ⌝ }
+    ensures { λ r. ⌜ DeciphersBlock s (now (block .entry)) (now (out .entry)) r (now (out .exit)) ⌝ }
 {
-    let no = block_refusal(s, block, out.len());
-    if no != refusals::DONE {
-        return no;
-    }
-    let x = bytes::block_at(block, 0);
-    let y = ciphers::decipher(&s.round_keys, s.cipher, s.key_length, x);
-    bytes::store(out, 0, y);
-    refusals::DONE
+    one_block(cipher_numbers::DECIPHER, s, block, out)
 }

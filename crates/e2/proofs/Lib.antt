@@ -1,3 +1,1 @@
-pub mod OfWords
 pub mod RoundFunction
-pub mod Undoes

@@ -6,7 +6,7 @@ ghost use Rattle.e2.specs.Block.{encipher, decipher};
 mod block;
 
 // Enciphers one block.
-pub fn encipher_with(table: &[u8; 256], keys: &[u8; 288], block: [u8; 16]) -> [u8; 16]
+pub fn encipher_with(table: &[u8], keys: &[u8; 288], block: [u8; 16]) -> [u8; 16]
     requires { ⌜ now table ≡ sTable ⌝ }
     ensures { λ r. ⌜ r ≡ encipher (now (keys .entry)) block ⌝ }
 {
@@ -14,7 +14,7 @@ pub fn encipher_with(table: &[u8; 256], keys: &[u8; 288], block: [u8; 16]) -> [u
 }
 
 // Deciphers one block.
-pub fn decipher_with(table: &[u8; 256], keys: &[u8; 288], block: [u8; 16]) -> [u8; 16]
+pub fn decipher_with(table: &[u8], keys: &[u8; 288], block: [u8; 16]) -> [u8; 16]
     requires { ⌜ now table ≡ sTable ⌝ }
     ensures { λ r. ⌜ r ≡ decipher (now (keys .entry)) block ⌝ }
 {

@@ -1,2 +1,3 @@
+pub mod Apart
 pub mod KeyParts
-pub mod KeysAreBytes
+pub mod Generations

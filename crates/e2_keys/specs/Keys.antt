@@ -1,21 +1,17 @@
--- E2's round keys: 001, 'Вычисление раундовых подключей', with 01's repairs ('E2').
-use mathlib.Core.Path.{_≡_}
+-- E2's round keys: 001, 'Вычисление раундовых подключей'. 01 ('E2') repairs its print in places; each is named where it is.
 use mathlib.Core.List.{List, [], _∷_, _++_}
-use Prim.Native.Nat.{ℕ, zero, suc, _+_, _-_, _*_, _/_, _%_, _≤_}
+use Prim.Native.Nat.{ℕ, zero, suc, _+_, _-_, _*_, _/_, _%_}
 use lib.ListN.{length, getD, drop}
 use Rattle.laws.specs.Places.{tab, quarters}
 use Rattle.laws.specs.Bytes.{xorL}
 use Rattle.e2_steps.specs.Steps.{S, P}
 
--- 16, 24 or 32 bytes
-abbrev pub KeyLength : ℕ → Type 0
-KeyLength n = (n % 8 ≡ 0) × (16 ≤ n) × (n ≤ 32)
-
--- the constant 0123456789abcdef
+-- the constant 0123456789abcdef, 01 the left byte
 abbrev pub g : List ℕ
 g = 0x01 ∷ 0x23 ∷ 0x45 ∷ 0x67 ∷ 0x89 ∷ 0xab ∷ 0xcd ∷ 0xef ∷ []
 
--- K = (K0, K1, K2, K3): what a short key lacks of K2 and K3 is S three times and S four times on g
+-- K = (K0, K1, K2, K3), of a key of 128, 192 (001's first line prints 196) or 256 bits. 01 repairs what a short key lacks: K2 is S three times on g, K3 four
+-- times, where 001 counts them as K3 and K4. A key of 192 bits lacks K3 alone
 unfoldable pub fullKey : List ℕ → List ℕ
 fullKey key = key ++ drop (length key - 16) (S (S (S g)) ++ S (S (S (S g))))
 
@@ -28,7 +24,7 @@ pub record Generated : Type 0 where
 unfoldable pub Y : List (List ℕ) → List (List ℕ)
 Y x = tab 4 (λ i. P (S (getD x i [])))
 
--- L0 := Y0 ⊕ P(S(U)), Li := P(S(L(i-1))) ⊕ Yi
+-- L0 := Y0 ⊕ P(S(U)), Li := P(S(L(i-1))) ⊕ Yi for i = 1 .. 3. 01 repairs the second: 001 begins at 0 and prints no ⊕ Yi
 unfoldable pub Li : List (List ℕ) → List ℕ → ℕ → List ℕ
 Li y u zero = xorL 8 (getD y 0 []) (P (S u))
 Li y u (suc i) = xorL 8 (P (S (Li y u i))) (getD y (suc i) [])
@@ -44,7 +40,7 @@ unfoldable pub generation : List ℕ → ℕ → Generated
 generation key zero = G (quarters 0 8 (fullKey key)) g
 generation key (suc n) = let r = generation key n in G (r .Y) (getD (r .L) 3 [])
 
--- q0 .. q31: four from each of the eight generations after the first
+-- q0 .. q31: q(4i) .. q(4i+3) are the L of generation i + 1
 unfoldable pub q : List ℕ → ℕ → List ℕ
 q key j = getD (generation key (suc (j / 4)) .L) (j % 4) []
 

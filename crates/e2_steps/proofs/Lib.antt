@@ -1,3 +1,3 @@
+pub mod ByWords
 pub mod TableRule
 pub mod StepsOfP
-pub mod StayBytes

@@ -6,7 +6,7 @@ use Prim.Native.Nat.{ℕ, _+_, _*_, _%_, _^_, _<_}
 use lib.Dec.{T, eqb, eqb→eq, lit<}
 use lib.ListN.{length, getD}
 use Rattle.laws.specs.Bytes.{Byte}
-use Rattle.laws.proofs.Places.{tab-is, getD-tab}
+use Rattle.laws.proofs.Places.{length-tab, tab-is, getD-tab}
 use Rattle.laws.proofs.Power.{powerBits}
 use Rattle.laws.proofs.Fields.{power-11b}
 use Rattle.laws.proofs.Table.{every, table-at}
@@ -26,3 +26,7 @@ table-by-rule xs e t =
 pub sTable-at : (x : ℕ) → Byte x → getD sTable x 0 ≡ s x
 unfolding sTable
 sTable-at x h = getD-tab 256 s x 0 h
+
+pub length-sTable : length sTable ≡ 256
+unfolding sTable
+length-sTable = length-tab 256 s

@@ -1,69 +1,95 @@
-// The steps on half a block, 8 bytes (001): BRL, P, P after S, and X ⊕ Y.
+// Half a block, 8 bytes, as two words of 32 bits, the left byte the highest, and 001's S, P, BRL and ⊕ on it.
 ghost use mathlib.Core.Path.{_≡_};
-ghost use mathlib.Core.List.{[], _∷_};
+ghost use Prim.Native.Nat.{_+_, _/_, _%_, _^_, _≤_};
+ghost use lib.ListN.{length};
 ghost use Rattle.laws.specs.Bytes.{xorL};
+ghost use Rattle.laws.specs.Places.{part};
+ghost use Rattle.words.specs.Word.{WordOf};
+ghost use Rattle.e2_steps.specs.Steps as steps;
 ghost use Rattle.e2_steps.specs.Steps.{sTable, BRL, S, P};
+ghost use Rattle.e2_steps.specs.code.Layout.{pairBytes};
 use crate::substitution::s_byte;
+use words::word::byte0;
+use words::word::byte1;
+use words::word::byte2;
+use words::word::byte3;
+use words::word::rotated;
+use words::word::word;
+use words::word::word_at;
 
-// BRL: one byte to the left.
-pub fn brl(x: [u8; 8]) -> [u8; 8]
-    ensures { λ r. ⌜ r ≡ BRL x ⌝ }
-{
-    [x[1], x[2], x[3], x[4], x[5], x[6], x[7], x[0]]
+pub struct Pair {
+    pub a: u32,
+    pub b: u32,
 }
 
-// P of eight bytes, in the sixteen steps of 001.
-fn p(x0: u8, x1: u8, x2: u8, x3: u8, x4: u8, x5: u8, x6: u8, x7: u8) -> [u8; 8]
-    ensures { λ r. ⌜ r ≡ P (x0 ∷ x1 ∷ x2 ∷ x3 ∷ x4 ∷ x5 ∷ x6 ∷ x7 ∷ []) ⌝ }
+// The half that stands in some bytes from a place on.
+pub fn load(bytes: &[u8], at: usize) -> Pair
+    requires { ⌜ at + 8 ≤ length (now bytes) ⌝ }
+    ensures { λ r. ⌜ pairBytes r ≡ part 0 at 8 (now (bytes .entry)) ⌝ }
 {
-    let a7 = x7 ^ x3;
-    let a6 = x6 ^ x2;
-    let a5 = x5 ^ x1;
-    let a4 = x4 ^ x0;
-    let a3 = x3 ^ a5;
-    let a2 = x2 ^ a4;
-    let a1 = x1 ^ a7;
-    let a0 = x0 ^ a6;
-    let y7 = a7 ^ a2;
-    let y6 = a6 ^ a1;
-    let y5 = a5 ^ a0;
-    let y4 = a4 ^ a3;
-    let y3 = a3 ^ y7;
-    let y2 = a2 ^ y6;
-    let y1 = a1 ^ y5;
-    let y0 = a0 ^ y4;
-    [y0, y1, y2, y3, y4, y5, y6, y7]
+    Pair {
+        a: word_at(bytes, at),
+        b: word_at(bytes, at + 4),
+    }
 }
 
-// P(S(x)). The bytes go from the table to P with no array between them, which saves an eighth of a block's time.
-pub fn ps(table: &[u8; 256], x: [u8; 8]) -> [u8; 8]
+// s at each byte of a word.
+fn s_word(table: &[u8], w: u32) -> u32
     requires { ⌜ now table ≡ sTable ⌝ }
-    ensures { λ r. ⌜ r ≡ P (S x) ⌝ }
+    ensures { λ r. ⌜ WordOf (steps.s (w / 2 ^ 24)) (steps.s (w / 2 ^ 16 % 2 ^ 8)) (steps.s (w / 2 ^ 8 % 2 ^ 8)) (steps.s (w % 2 ^ 8)) r ⌝ }
 {
-    p(
-        s_byte(table, x[0]),
-        s_byte(table, x[1]),
-        s_byte(table, x[2]),
-        s_byte(table, x[3]),
-        s_byte(table, x[4]),
-        s_byte(table, x[5]),
-        s_byte(table, x[6]),
-        s_byte(table, x[7]),
+    word(
+        s_byte(table, byte0(w)),
+        s_byte(table, byte1(w)),
+        s_byte(table, byte2(w)),
+        s_byte(table, byte3(w)),
     )
 }
 
-// X ⊕ Y on 8 bytes.
-pub fn add(x: [u8; 8], y: [u8; 8]) -> [u8; 8]
-    ensures { λ r. ⌜ r ≡ xorL 8 x y ⌝ }
+// S: s at each byte.
+pub fn s(table: &[u8], x: Pair) -> Pair
+    requires { ⌜ now table ≡ sTable ⌝ }
+    ensures { λ r. ⌜ pairBytes r ≡ S (pairBytes x) ⌝ }
 {
-    [
-        x[0] ^ y[0],
-        x[1] ^ y[1],
-        x[2] ^ y[2],
-        x[3] ^ y[3],
-        x[4] ^ y[4],
-        x[5] ^ y[5],
-        x[6] ^ y[6],
-        x[7] ^ y[7],
-    ]
+    Pair {
+        a: s_word(table, x.a),
+        b: s_word(table, x.b),
+    }
+}
+
+// P, in the sixteen steps of 001, four at a time.
+pub fn p(x: Pair) -> Pair
+    ensures { λ r. ⌜ pairBytes r ≡ P (pairBytes x) ⌝ }
+{
+    let h = x.b ^ x.a;
+    let l = x.a ^ rotated(h, 16);
+    let y = h ^ rotated(l, 24);
+    Pair { a: l ^ y, b: y }
+}
+
+// The last three bytes of a word, and the first of another.
+fn moved(a: u32, b: u32) -> u32
+    ensures { λ r. ⌜ WordOf (a / 2 ^ 16 % 2 ^ 8) (a / 2 ^ 8 % 2 ^ 8) (a % 2 ^ 8) (b / 2 ^ 24) r ⌝ }
+{
+    word(byte1(a), byte2(a), byte3(a), byte0(b))
+}
+
+// BRL: one byte to the left.
+pub fn brl(x: Pair) -> Pair
+    ensures { λ r. ⌜ pairBytes r ≡ BRL (pairBytes x) ⌝ }
+{
+    Pair {
+        a: moved(x.a, x.b),
+        b: moved(x.b, x.a),
+    }
+}
+
+// X ⊕ Y.
+pub fn xor(x: Pair, y: Pair) -> Pair
+    ensures { λ r. ⌜ pairBytes r ≡ xorL 8 (pairBytes x) (pairBytes y) ⌝ }
+{
+    Pair {
+        a: x.a ^ y.a,
+        b: x.b ^ y.b,
+    }
 }

@@ -1,4 +1,4 @@
-// E2's steps (001): ⊗ and ⊘ on words, s and S, and those on half a block.
+// E2's steps (001): ⊗ and ⊘ on a block, s and S, and those on half a block.
 pub mod half;
+pub mod quad;
 pub mod substitution;
-pub mod words;

@@ -1,7 +1,7 @@
-// E2's substitution (001, 's' and its table 1): the table, s of one byte, and S on 8 bytes. The table is copied once and lent down: a constant that is
+// E2's substitution (001, 's' and its table 1): the table, and s of one byte. The table is copied once and lent down: a constant that is
 // read where it is used is written out anew each time.
 ghost use mathlib.Core.Path.{_≡_};
-ghost use Rattle.e2_steps.specs.Steps.{s, S, sTable};
+ghost use Rattle.e2_steps.specs.Steps.{s, sTable};
 
 const SBOX: [u8; 256] = [
     225,
@@ -270,26 +270,9 @@ pub fn table() -> [u8; 256]
 }
 
 // s of one byte.
-pub fn s_byte(table: &[u8; 256], x: u8) -> u8
+pub fn s_byte(table: &[u8], x: u8) -> u8
     requires { ⌜ now table ≡ sTable ⌝ }
     ensures { λ r. ⌜ r ≡ s x ⌝ }
 {
     table[x as usize]
-}
-
-// S: s at each of 8 bytes.
-pub fn s(table: &[u8; 256], x: [u8; 8]) -> [u8; 8]
-    requires { ⌜ now table ≡ sTable ⌝ }
-    ensures { λ r. ⌜ r ≡ S x ⌝ }
-{
-    [
-        s_byte(table, x[0]),
-        s_byte(table, x[1]),
-        s_byte(table, x[2]),
-        s_byte(table, x[3]),
-        s_byte(table, x[4]),
-        s_byte(table, x[5]),
-        s_byte(table, x[6]),
-        s_byte(table, x[7]),
-    ]
 }

@@ -1,120 +1,159 @@
-// 01's edge cases, run and shown: a line for each call, its answer and the bytes that it writes.
-use cipher::Schedule;
+// 01's edge cases for every cipher, run and shown: a line for each call, with its answer and the bytes of its output afterwards.
 use libc::STDOUT_FILENO;
-use stream::Fed;
 use stream::Stream;
 
 fn say(words: &[u8]) {
     io::write_all(STDOUT_FILENO, words);
 }
 
-fn number(n: u64) {
+fn number(words: &[u8], n: u64) {
+    say(words);
     io::print_decimal(STDOUT_FILENO, n);
 }
 
-// A call, its answer and how many bytes it wrote.
-fn show(call: &[u8], answer: u8, written: u64) {
-    say(call);
-    say(b": answer ");
-    number(answer as u64);
-    say(b", writes ");
-    number(written);
+fn bytes(words: &[u8], all: &[u8]) {
+    say(words);
+    let mut i: usize = 0;
+    while i < all.len() {
+        io::print_hex(STDOUT_FILENO, all[i] as u64, 2);
+        i += 1;
+    }
     say(b"\n");
 }
 
-fn fed(call: &[u8], f: Fed) -> Stream {
-    show(call, f.answer, f.written);
+// A key of that length, and a block under what it gives.
+fn key_of(cipher: u64, key: &[u8]) {
+    let mut out = [238u8; 16];
+    let made = cipher::set_up(cipher, key);
+    let answer = cipher::encipher_block(made.schedule, b"sixteen letters.", &mut out);
+    number(b"  a key of ", key.len() as u64);
+    number(b" bytes: answer ", made.answer as u64);
+    number(b"; a block under it: answer ", answer as u64);
+    bytes(b", output ", &out);
+}
+
+fn keys(cipher: u64) {
+    let key = *b"0123456789abcdefghijklmnopqrstuvw";
+    key_of(cipher, &key[..15]);
+    key_of(cipher, &key[..16]);
+    key_of(cipher, &key[..17]);
+    key_of(cipher, &key[..24]);
+    key_of(cipher, &key[..32]);
+    key_of(cipher, &key);
+}
+
+// A piece's answer, and all of its output.
+fn fed(call: &[u8], answer: u8, written: u64, out: &[u8]) {
+    number(call, answer as u64);
+    number(b", writes ", written);
+    bytes(b", output ", out);
+}
+
+// A piece into 16 bytes of room, and the next stream.
+fn piece(call: &[u8], stream: Stream, bytes: &[u8]) -> Stream {
+    let mut out = [238u8; 16];
+    let f = stream.feed(bytes, &mut out);
+    fed(call, f.answer, f.written, &out);
     f.next
 }
 
-fn cuts(schedule: Schedule) {
-    let first = [7u8; 16];
-    let bytes = [3u8; 31];
-    let mut room = [0u8; 32];
-    let mut room15 = [0u8; 15];
-    let mut room16 = [0u8; 16];
-    let begun = Stream::start(schedule, 1, &first);
-    let fresh = begun.stream;
-    let seven = fed(b"a piece of 7", fresh.feed(&bytes[..7], &mut room));
-    let sixteen = fed(b"then a piece of 9", seven.feed(&bytes[..9], &mut room));
-    let done = sixteen.finish();
-    show(b"then finish", done.answer, 0);
-    let closed = done.next;
-    fed(b"then a piece of 1", closed.feed(&bytes[..1], &mut room));
-    let held = fed(b"a piece of 31", fresh.feed(&bytes, &mut room));
-    say(b"it holds ");
-    number(held.count % 16);
-    say(b"\n");
-    let early = held.finish();
-    show(b"then finish", early.answer, 0);
-    let short = fed(
-        b"16 bytes into 15 of room",
-        fresh.feed(&bytes[..16], &mut room15),
-    );
-    fed(
-        b"then again, into 16",
-        short.feed(&bytes[..16], &mut room16),
-    );
-    let empty = fresh.finish();
-    show(b"an empty message finished", empty.answer, 0);
+fn piece_in_15(call: &[u8], stream: Stream, bytes: &[u8]) -> Stream {
+    let mut out = [238u8; 15];
+    let f = stream.feed(bytes, &mut out);
+    fed(call, f.answer, f.written, &out);
+    f.next
 }
 
-fn starts(schedule: Schedule) {
-    let first = [7u8; 16];
-    let a = Stream::start(schedule, 3, &first);
-    show(b"start in direction 3", a.answer, 0);
-    let b = Stream::start(schedule, 257, &first);
-    show(b"start in direction 257", b.answer, 0);
-    let c = Stream::start(schedule, 2, &first[..15]);
-    show(b"start from 15 bytes", c.answer, 0);
+fn finish(call: &[u8], stream: Stream) -> Stream {
+    let done = stream.finish();
+    number(call, done.answer as u64);
+    say(b"\n");
+    done.next
+}
+
+fn cuts(fresh: Stream) {
+    let text = *b"the message of thirty-one bytes";
+    let seven = piece(b"  a piece of 7: answer ", fresh, &text[..7]);
+    let sixteen = piece(b"  then a piece of 9: answer ", seven, &text[7..16]);
+    let closed = finish(b"  then finish: answer ", sixteen);
+    piece(b"  then a piece of 1: answer ", closed, &text[..1]);
+}
+
+fn held_bytes(fresh: Stream) {
+    let text = *b"the message of thirty-one bytes";
+    let held = piece(b"  a piece of 31: answer ", fresh, &text);
+    number(b"  it holds ", held.count % 16);
+    say(b"\n");
+    finish(b"  then finish: answer ", held);
+    piece(b"  then a piece of 1: answer ", held, &text[..1]);
+}
+
+fn rooms(fresh: Stream) {
+    let text = *b"the message of thirty-one bytes";
+    let short = piece_in_15(
+        b"  a piece of 16 into 15 of room: answer ",
+        fresh,
+        &text[..16],
+    );
+    piece(b"  then again, into 16: answer ", short, &text[..16]);
+    finish(b"  an empty message finished: answer ", fresh);
 }
 
 fn million() -> [u8; 1048576] {
     [3u8; 1048576]
 }
 
-fn limit(schedule: Schedule) {
-    let first = [7u8; 16];
-    let bytes = million();
-    let mut room = million();
-    let one = [3u8; 1];
-    let mut none = [0u8; 0];
-    let begun = Stream::start(schedule, 2, &first);
-    let fresh = begun.stream;
-    let full = fed(b"1048576 bytes at once", fresh.feed(&bytes, &mut room));
-    fed(b"then 1 more", full.feed(&one, &mut none));
-    fed(
-        b"then an empty piece, into no room",
-        full.feed(&one[..0], &mut none),
-    );
-    let done = full.finish();
-    show(b"then finish", done.answer, 0);
+fn last_block(words: &[u8], all: &[u8]) {
+    if 16 <= all.len() {
+        let from = all.len() - 16;
+        bytes(words, &all[from..]);
+    }
 }
 
-// A key of that length for each cipher.
-fn lengths(key: &[u8]) {
-    say(b"a key of ");
-    number(key.len() as u64);
-    say(b" bytes: answers ");
-    number(cipher::set_up(1, key).answer as u64);
-    say(b", ");
-    number(cipher::set_up(2, key).answer as u64);
-    say(b", ");
-    number(cipher::set_up(3, key).answer as u64);
+// All that a stream takes, in one piece.
+fn fill(fresh: Stream) -> Stream {
+    let bytes = million();
+    let mut out = million();
+    let f = fresh.feed(&bytes, &mut out);
+    number(b"  1048576 bytes at once: answer ", f.answer as u64);
+    number(b", writes ", f.written);
+    last_block(b", the last 16 ", &out);
+    f.next
+}
+
+fn limit(fresh: Stream) {
+    let one = [3u8; 1];
+    let full = fill(fresh);
+    piece(b"  then 1 more: answer ", full, &one);
+    piece(b"  then an empty piece: answer ", full, &one[..0]);
+    finish(b"  then finish: answer ", full);
+}
+
+fn start(call: &[u8], cipher: u64, direction: u64, first: &[u8]) -> Stream {
+    let made = cipher::set_up(cipher, b"0123456789abcdef");
+    let begun = Stream::start(made.schedule, direction, first);
+    number(call, begun.answer as u64);
     say(b"\n");
+    begun.stream
+}
+
+fn cases(cipher: u64) {
+    number(b"cipher ", cipher);
+    say(b"\n");
+    keys(cipher);
+    let first = *b"the first block.";
+    start(b"  start in direction 3: answer ", cipher, 3, &first);
+    start(b"  start in direction 257: answer ", cipher, 257, &first);
+    start(b"  start from 15 bytes: answer ", cipher, 2, &first[..15]);
+    let fresh = start(b"  start to encipher: answer ", cipher, 1, &first);
+    cuts(fresh);
+    held_bytes(fresh);
+    rooms(fresh);
+    limit(start(b"  start to decipher: answer ", cipher, 2, &first));
 }
 
 fn main() {
-    let key = [5u8; 33];
-    lengths(&key[..15]);
-    lengths(&key[..16]);
-    lengths(&key[..17]);
-    lengths(&key[..24]);
-    lengths(&key[..32]);
-    lengths(&key);
-    let made = cipher::set_up(1, &key[..16]);
-    let schedule = made.schedule;
-    cuts(schedule);
-    starts(schedule);
-    limit(schedule);
+    cases(1);
+    cases(2);
+    cases(3);
 }

@@ -1,3 +1,1 @@
 pub mod Outcomes
-pub mod Demand2
-pub mod Unique

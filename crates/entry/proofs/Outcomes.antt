@@ -1,84 +1,68 @@
 -- The entry's answers, one law for each outcome, in the order in which the code comes to it.
 use mathlib.Core.Path.{_≡_, refl}
 use mathlib.Core.Bool.{Bool, true, false, not}
-use mathlib.Core.List.{List}
-use Prim.Native.Nat.{ℕ}
+use mathlib.Core.List.{List, _++_}
+use Prim.Native.Nat.{ℕ, _<_, _≤_}
 use native.Mathlib.Omega.{arith}
 use lib.Dec.{eqb, ltb}
-use lib.ListN.{length}
-use borrow.Author.Tests.{eq-eqb, ne-eqb}
-use Rattle.laws.specs.Choice.{choose}
-use Rattle.cipher.specs.Ciphers.{isCipher, isLength, isDirection}
-use Rattle.cipher.specs.Schedule.{bad, enciphered, deciphered, zeroSchedule}
-use Rattle.cipher.specs.Calls.{setUpRefusal, schedule, refusedSetUp, setUp, blockRefusal, blockOut}
-use Rattle.cipher.specs.declared.Schedule.{Schedule}
-use Rattle.cipher.specs.declared.SetUp.{SetUp}
+use lib.ListN.{length, drop}
+use borrow.Author.Tests.{eq-eqb, ne-eqb, lt-ltb, le-ltb, eqb-true, ltb-false}
+use Rattle.refusals.specs.Refusals as refusal
+use Rattle.cipher_numbers.specs.Ciphers.{isCipher, isLength, isDirection}
 use Rattle.entry.specs.Entry.{entryRefusal, worked, entryOut}
 
--- ---- what set-up's answer tells
-module _ (n : ℕ) (key : List ℕ) where
-  pub record Legal : Type 0 where
-    pub cipher : isCipher n ≡ true
-    pub length-ok : isLength n (length key) ≡ true
-    pub made : setUp n key .schedule ≡ schedule n key
+module _ (c d k n room : ℕ) where
+  pub entry-unknown : isCipher c ≡ false → refusal.unknownCipher ≡ entryRefusal c d k n room
+  unfolding entryRefusal
+  entry-unknown a = rw a
 
-  pub set-up-tells : setUp n key .answer ≡ 0 → Legal
-  unfolding setUp setUpRefusal refusedSetUp
-  set-up-tells = at-cipher (isCipher n) (isLength n (length key)) refl refl
-    where
-      answer-of : Bool → Bool → SetUp
-      answer-of t u =
-          choose (eqb (choose (not t) 1 (choose (not u) 2 0)) 0) (record { answer = 0; schedule = schedule n key })
-          (record { answer = choose (not t) 1 (choose (not u) 2 0); schedule = zeroSchedule })
-
-      at-cipher : (t u : Bool) → isCipher n ≡ t → isLength n (length key) ≡ u → answer-of t u .answer ≡ 0 → Legal
-      at-cipher true true e f h = record { cipher = e; length-ok = f; made = rw (e, f) }
-      at-cipher true false e f h = absurd (omega arith)
-      at-cipher false u e f h = absurd (omega arith)
-
--- ---- the outcomes
-module _ (c d : ℕ) (key x o : List ℕ) where
-  -- refused by set-up
-  pub entry-set-up : (setUp c key .answer ≡ 0 → ⊥) → setUp c key .answer ≡ entryRefusal c d key x (length o)
-  unfolding setUp setUpRefusal refusedSetUp entryRefusal
-  entry-set-up = at-cipher (isCipher c) (isLength c (length key))
-    where
-      rest : ℕ
-      rest = choose (not (isDirection d)) 4 (choose (not (eqb (length x) 16)) 11 (choose (ltb (length o) 16) 9 0))
-
-      answer-of : Bool → Bool → SetUp
-      answer-of t u =
-          choose (eqb (choose (not t) 1 (choose (not u) 2 0)) 0) (record { answer = 0; schedule = schedule c key })
-          (record { answer = choose (not t) 1 (choose (not u) 2 0); schedule = zeroSchedule })
-
-      at-cipher : (t u : Bool) → (answer-of t u .answer ≡ 0 → ⊥) → answer-of t u .answer ≡ choose (not t) 1 (choose (not u) 2 rest)
-      at-cipher true true z = absurd (z refl)
-      at-cipher true false z = refl
-      at-cipher false u z = refl
-
-  pub out-refused : (n : ℕ) → n ≡ entryRefusal c d key x (length o) → (n ≡ 0 → ⊥) → o ≡ entryOut c d key x o
-  unfolding entryOut
-  out-refused n e z = rw (← e, ne-eqb _ _ z)
-
-  module _ (l : Legal c key) where
-    pub entry-4 : isDirection d ≡ false → 4 ≡ entryRefusal c d key x (length o)
+  module _ (a : isCipher c ≡ true) where
+    pub entry-length : isLength c k ≡ false → refusal.keyLength ≡ entryRefusal c d k n room
     unfolding entryRefusal
-    entry-4 h = rw (l .cipher, l .length-ok, h)
+    entry-length b = rw (a, b)
 
-    module _ (g : bad (schedule c key) ≡ false) (h : isDirection d ≡ true) where
-      -- the block's own refusal is the entry's
-      pub entry-block : blockRefusal (schedule c key) x (length o) ≡ entryRefusal c d key x (length o)
-      unfolding entryRefusal blockRefusal
-      entry-block = rw (l .cipher, l .length-ok, h, g)
+    module _ (b : isLength c k ≡ true) where
+      pub entry-direction : isDirection d ≡ false → refusal.direction ≡ entryRefusal c d k n room
+      unfolding entryRefusal
+      entry-direction e = rw (a, b, e)
 
-      pub entry-out : (f : Schedule → List ℕ → List ℕ) → f (schedule c key) x ≡ worked c d key x → blockOut f (schedule c key) x o ≡ entryOut c d key x o
-      unfolding entryOut blockOut
-      entry-out f e = rw (entry-block, e)
+      module _ (e : isDirection d ≡ true) where
+        pub entry-block : (n ≡ 16 → ⊥) → refusal.blockLength ≡ entryRefusal c d k n room
+        unfolding entryRefusal
+        entry-block z = rw (a, b, e, ne-eqb _ _ z)
 
-  pub worked-1 : d ≡ 1 → enciphered (schedule c key) x ≡ worked c d key x
-  unfolding worked
-  worked-1 e = rw (eq-eqb _ _ e)
+        pub entry-no-room : n ≡ 16 → room < 16 → refusal.noRoom ≡ entryRefusal c d k n room
+        unfolding entryRefusal
+        entry-no-room w h = rw (a, b, e, eq-eqb _ _ w, lt-ltb _ _ h)
 
-  pub worked-2 : (d ≡ 1 → ⊥) → deciphered (schedule c key) x ≡ worked c d key x
-  unfolding worked
-  worked-2 z = rw (ne-eqb _ _ z)
+        pub entry-done : n ≡ 16 → 16 ≤ room → refusal.done ≡ entryRefusal c d k n room
+        unfolding entryRefusal
+        entry-done w h = rw (a, b, e, eq-eqb _ _ w, le-ltb _ _ h)
+
+  -- what an accepted call tells
+  pub record AcceptedCall : Type 0 where
+    pub legal : isLength c k ≡ true
+    pub whole : n ≡ 16
+    pub fits : 16 ≤ room
+
+  pub accepted-call : entryRefusal c d k n room ≡ refusal.done → AcceptedCall
+  unfolding entryRefusal
+  accepted-call = at (isCipher c) (isLength c k) (isDirection d) (eqb n 16) (ltb room 16) refl refl refl
+    where
+      at : (t u v w x : Bool) → isLength c k ≡ u → eqb n 16 ≡ w → ltb room 16 ≡ x
+          → refusal.entryOrder (not t) (not u) (not v) (not w) x ≡ refusal.done → AcceptedCall
+      at false u v w x f h i z = absurd (omega arith)
+      at true false v w x f h i z = absurd (omega arith)
+      at true true false w x f h i z = absurd (omega arith)
+      at true true true false x f h i z = absurd (omega arith)
+      at true true true true true f h i z = absurd (omega arith)
+      at true true true true false f h i z = record { legal = f; whole = eqb-true n 16 h; fits = ltb-false room 16 i }
+
+module _ (c d : ℕ) (key x o : List ℕ) where
+  pub out-refused : (entryRefusal c d (length key) (length x) (length o) ≡ refusal.done → ⊥) → o ≡ entryOut c d key x o
+  unfolding entryOut
+  out-refused z = rw (ne-eqb _ _ z)
+
+  pub out-done : entryRefusal c d (length key) (length x) (length o) ≡ refusal.done → worked c d key x ++ drop 16 o ≡ entryOut c d key x o
+  unfolding entryOut
+  out-done e = rw (eq-eqb _ _ e)

@@ -1,7 +1,30 @@
-// What C calls: one block, on numbers and byte slices (01, 'What is built').
+// What C calls: one block, on numbers and byte slices (01, 'What is built'). No schedule record is made, tested or copied for it.
+use cipher_blocks::alone;
+use cipher_blocks::chain::Way;
 ghost use mathlib.Core.Path.{_≡_};
-ghost use lib.ListN.{length};
-ghost use Rattle.entry.specs.Entry.{entryRefusal, entryOut};
+ghost use Rattle.entry.specs.Entry.{entryRefusal, WorksForC, TellsVersion};
+
+// The refusal of a call with these lengths of key, block and output, or 0.
+pub fn refusal(cipher: u64, direction: u64, key: usize, block: usize, room: usize) -> u8
+    ensures { λ r. ⌜ r ≡ entryRefusal cipher direction key block room ⌝ }
+{
+    if !cipher_numbers::is_cipher(cipher) {
+        return refusals::UNKNOWN_CIPHER;
+    }
+    if !cipher_numbers::is_length(cipher, key) {
+        return refusals::KEY_LENGTH;
+    }
+    if !cipher_numbers::is_direction(direction) {
+        return refusals::DIRECTION;
+    }
+    if block != 16 {
+        return refusals::BLOCK_LENGTH;
+    }
+    if room < 16 {
+        return refusals::NO_ROOM;
+    }
+    refusals::DONE
+}
 
 // One block enciphered (direction 1) or deciphered (2) under a key, to the front of the output. 0 is done.
 #[no_mangle]
@@ -12,19 +35,26 @@ pub extern "C" fn tlilcueyoh_block(
     input: &[u8],
     output: &mut [u8],
 ) -> u64
-    ensures { λ r. ⌜ (r ≡ entryRefusal cipher direction (now (key .entry)) (now (input .entry)) (length (now (output .entry))))
-        × (now (output .exit) ≡ entryOut cipher direction (now (key .entry)) (now (input .entry)) (now (output .entry))) ⌝ }
+    ensures { λ r. ⌜ WorksForC cipher direction (now (key .entry)) (now (input .entry)) (now (output .entry)) r (now (output .exit)) ⌝ }
 {
-    let made = cipher::set_up(cipher, key);
-    let no = made.answer;
+    let no = refusal(cipher, direction, key.len(), input.len(), output.len());
     if no != refusals::DONE {
         return no as u64;
     }
-    if !cipher::ciphers::is_direction(direction) {
-        return refusals::DIRECTION as u64;
-    }
-    if direction == 1 {
-        return cipher::encipher_block(made.schedule, input, output) as u64;
-    }
-    cipher::decipher_block(made.schedule, input, output) as u64
+    let keys = cipher_numbers::round_keys(cipher, key);
+    let way = Way {
+        cipher,
+        length: key.len(),
+        direction,
+    };
+    alone::run(&keys, way, input, output, 1);
+    refusals::DONE as u64
+}
+
+// The version of the call and its answers, for a host to compare with its header's.
+#[no_mangle]
+pub extern "C" fn tlilcueyoh_version() -> u64
+    ensures { λ r. ⌜ TellsVersion r ⌝ }
+{
+    1
 }

@@ -11,9 +11,9 @@ use borrow.Author.Tests.{lt-ltb, le-ltb}
 use Rattle.laws.specs.Choice.{choose}
 use Rattle.laws.specs.Rounds.{steps, back}
 use Rattle.laws.proofs.Rounds.{Stepped, steps-end}
-use Rattle.hierocrypt3.specs.Operations.{MDSH⁻}
+use Rattle.hierocrypt3_steps.specs.Operations.{MDSH⁻}
 use Rattle.hierocrypt3.specs.Block.{addKey, firstHalf, XS, XS⁻, ρ, ρ⁻, roundKey, encryption, decryption}
-use Rattle.hierocrypt3.specs.Columns.{roundAt, roundAt⁻}
+use Rattle.hierocrypt3.specs.code.Columns.{roundAt, roundAt⁻}
 
 module _ {A : Type 0} where
   pub if-more : (i n : ℕ) (x y : A) → i < n → choose (ltb i n) x y ≡ x

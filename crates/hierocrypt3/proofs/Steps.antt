@@ -7,9 +7,10 @@ use lib.Bits.{bitXor}
 use lib.ListN.{getD}
 use Rattle.laws.specs.Places.{layer}
 use Rattle.laws.proofs.Places.{getD-tab, tab-equal}
-use Rattle.hierocrypt3.specs.Operations.{S, S⁻, MDSL, MDSL⁻}
+use Rattle.hierocrypt3_steps.specs.Operations.{S, S⁻, MDSL, MDSL⁻}
+use Rattle.hierocrypt3_steps.specs.code.Columns.{sColumn, sColumn⁻}
 use Rattle.hierocrypt3.specs.Block.{addKey, firstHalf, secondHalf, roundKey, XS, XS⁻}
-use Rattle.hierocrypt3.specs.Columns.{keyColumn, xsColumn, xsColumn⁻}
+use Rattle.hierocrypt3.specs.code.Columns.{keyColumn, xsColumn, xsColumn⁻}
 
 -- ---- round key i + 1 stands at i * 32
 round-key-at : (keys : List ℕ) (i n : ℕ) → n < 32 → getD (roundKey keys (i + 1)) n 0 ≡ getD keys (i * 32 + n) 0
@@ -79,13 +80,13 @@ module _ (keys : List ℕ) (i : ℕ) (x : List (List ℕ)) where
   key-steps = sym (first-columns x)
 
   xs-steps : at-columns (xsColumn keys) x ≡ XS key x
-  unfolding XS S MDSL xsColumn
+  unfolding XS S MDSL sColumn
   xs-steps =
       sym (ap (λ (y : List (List ℕ)). S (addKey (secondHalf key) (MDSL (S y)))) (first-columns x)
       ∙ ap S (second-columns (MDSL (S (at-columns (keyColumn keys) x)))))
 
   xs-steps⁻ : at-columns (xsColumn⁻ keys) x ≡ XS⁻ key x
-  unfolding XS⁻ S⁻ MDSL⁻ xsColumn⁻
+  unfolding XS⁻ S⁻ MDSL⁻ sColumn⁻
   xs-steps⁻ =
       sym (ap (λ (y : List (List ℕ)). addKey (firstHalf key) (S⁻ (MDSL⁻ y))) (second-columns (S⁻ x))
       ∙ first-columns (S⁻ (MDSL⁻ (at-columns (λ m. keyColumn keys (m + 16)) (S⁻ x)))))

@@ -1,12 +1,12 @@
 -- Hierocrypt-3, one block: 002, sections 2.1, 2.2, 3.1 and 3.3, for any round keys k 1 .. k (T + 1) of 32 bytes each.
-use mathlib.Core.Path.{_≡_}
 use mathlib.Core.List.{List, []}
-use Prim.Native.Nat.{ℕ, _+_, _-_, _*_, _/_, _%_, _≤_}
+use Prim.Native.Nat.{ℕ, _+_, _-_, _*_}
 use lib.Bits.{bitXor}
 use lib.ListN.{getD}
 use Rattle.laws.specs.Places.{layer, part, quarters, joined}
 use Rattle.laws.specs.Rounds.{steps, back}
-use Rattle.hierocrypt3.specs.Operations.{S, S⁻, MDSL, MDSL⁻, MDSH, MDSH⁻}
+pub use Rattle.hierocrypt3_steps.specs.Rounds.{T}
+use Rattle.hierocrypt3_steps.specs.Operations.{S, S⁻, MDSL, MDSL⁻, MDSH, MDSH⁻}
 
 -- X ⊕ the 16 bytes of k
 unfoldable pub addKey : List ℕ → List (List ℕ) → List (List ℕ)
@@ -18,7 +18,7 @@ firstHalf k = part 0 0 16 k
 abbrev pub secondHalf : List ℕ → List ℕ
 secondHalf k = part 0 16 16 k
 
--- ---- XS (section 3.3) and ρ (section 3.1)
+-- ---- XS (section 3.3) and ρ (section 3.1). 000 prints an XS without the inner S and with the second half of the key outside; section 3.3 decides (01)
 unfoldable pub XS : List ℕ → List (List ℕ) → List (List ℕ)
 XS k x = S (addKey (secondHalf k) (MDSL (S (addKey (firstHalf k) x))))
 
@@ -38,13 +38,7 @@ encryption n k x = addKey (firstHalf (k (n + 2))) (XS (k (n + 1)) (steps n (λ i
 unfoldable pub decryption : ℕ → (ℕ → List ℕ) → List (List ℕ) → List (List ℕ)
 decryption n k x = back n (λ i. ρ⁻ (k (i + 1))) (XS⁻ (k (n + 1)) (addKey (firstHalf (k (n + 2))) x))
 
--- ---- on bytes: the keys 1 to T + 1 stand at the front of the round keys; a key of `len` bytes, 16, 24 or 32, makes 6, 7 or 8 rounds
-abbrev pub KeyLength : ℕ → Type 0
-KeyLength len = (16 ≤ len) × (len ≤ 32) × (len % 8 ≡ 0)
-
-abbrev pub T : ℕ → ℕ
-T len = len / 8 + 4
-
+-- ---- on bytes: the keys 1 to T + 1 stand at the front of the round keys
 abbrev pub roundKey : List ℕ → ℕ → List ℕ
 roundKey keys t = part 0 ((t - 1) * 32) 32 keys
 

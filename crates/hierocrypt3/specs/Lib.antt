@@ -1,3 +1,2 @@
-pub mod Operations
 pub mod Block
-pub mod Columns
+pub mod code

@@ -8,8 +8,8 @@ use native.Mathlib.Omega.{arith}
 use lib.Dec.{leb}
 use borrow.Author.Tests.{le-leb, lt-leb}
 use Rattle.laws.specs.Choice.{choose}
-use Rattle.hierocrypt3.specs.Block.{KeyLength}
-use Rattle.hierocrypt3_keys.specs.Keys.{turn}
+use Rattle.words.specs.KeyLength.{KeyLength}
+use Rattle.hierocrypt3_keys.specs.Keys.{tTurn}
 
 pub key-lengths : (len : ℕ) → KeyLength len → (len ≡ 16) ⊎ ((len ≡ 24) ⊎ (len ≡ 32))
 key-lengths len h = at (ℕ-discrete len 16) (ℕ-discrete len 24)
@@ -19,11 +19,11 @@ key-lengths len h = at (ℕ-discrete len 16) (ℕ-discrete len 24)
     at (no q) (yes p) = inr (inl p)
     at (no q) (no r) = inr (inr (omega arith))
 
-pub turn-early : (len : ℕ) → KeyLength len → (len ≡ 32 → ⊥) → 4 ≡ turn len
-turn-early len h q =
-    ⊎-elim (λ e. ap turn (sym e)) (λ o. ⊎-elim (λ e. ap turn (sym e)) (λ e. absurd (q e)) o) (key-lengths len h)
+pub t-turn-early : (len : ℕ) → KeyLength len → (len ≡ 32 → ⊥) → 4 ≡ tTurn len
+t-turn-early len h q =
+    ⊎-elim (λ e. ap tTurn (sym e)) (λ o. ⊎-elim (λ e. ap tTurn (sym e)) (λ e. absurd (q e)) o) (key-lengths len h)
 
--- step t + 1 stands before or behind the turn
+-- step t + 1 stands before or behind t_turn
 module _ {A : Type 0} (t m : ℕ) (x y : A) where
   pub plaintext-side : t < m → x ≡ choose (leb (t + 1) m) x y
   plaintext-side h = sym (ap (λ (b : Bool). choose b x y) (le-leb (t + 1) m (omega arith)))

@@ -6,14 +6,13 @@ use native.Mathlib.Nat.{not-suc-le-zero}
 use native.Mathlib.Numerals.{add-one}
 use native.Mathlib.Decide.{ℕ-discrete, decLt}
 use native.Mathlib.Omega.{arith}
-use lib.ListN.{length, getD, set, length-set, List·getD-append, List·getD-eq-default}
+use lib.ListN.{length, getD, set, replicate, length-set, List·getD-append, List·getD-eq-default}
 use lib.Seq.{getD-set-same, getD-set-other, getD-append-add}
 use Rattle.laws.specs.Places.{tab}
-use Rattle.laws.proofs.XorLists.{zeros}
 use Rattle.laws.proofs.Places.{tab-is, getD-tab, length-tab}
 use Rattle.hierocrypt3_keys.specs.declared.Intermediate.{Intermediate}
-use Rattle.hierocrypt3.specs.Block.{T}
-use Rattle.hierocrypt3_keys.specs.Placed.{Placed}
+use Rattle.hierocrypt3_steps.specs.Rounds.{T}
+use Rattle.hierocrypt3_keys.specs.code.Placed.{Placed}
 use Rattle.hierocrypt3_keys.specs.Keys.{next, Z, keyOf, K, roundKeys}
 
 pub placed-start : (at : ℕ) (k r : List ℕ) → Placed at 0 k r r
@@ -91,12 +90,12 @@ pub record Laid (key : List ℕ) (t : ℕ) (keys : List ℕ) : Type 0 where
   pub done : (n : ℕ) → n < t * 32 → getD keys n 0 ≡ getD (K key (suc (n / 32))) (n % 32) 0
   pub rest : (n : ℕ) → t * 32 ≤ n → getD keys n 0 ≡ 0
 
-zero-at : (m n : ℕ) → getD (zeros m) n 0 ≡ 0
+zero-at : (m n : ℕ) → getD {A = ℕ} (replicate m 0) n 0 ≡ 0
 zero-at zero n = refl
 zero-at (suc m) zero = refl
 zero-at (suc m) (suc n) = zero-at m n
 
-pub laid-start : (key : List ℕ) → Laid key 0 (zeros 288)
+pub laid-start : (key : List ℕ) → Laid key 0 (replicate 288 0)
 laid-start key = record { long = refl; done = λ n h. absurd (not-suc-le-zero h); rest = λ n h. zero-at 288 n }
 
 pub laid-step : {key : List ℕ} {t : ℕ} {keys r : List ℕ} (k : List ℕ) → Laid key t keys → Placed (t * 32) 32 k keys r → k ≡ K key (suc t) → Laid key (t + 1) r

@@ -1,5 +1,6 @@
--- Hierocrypt-3's round keys: 002, section 2.3, in its order, with 01's repairs ('Hierocrypt-3'). An intermediate key Z is Z1 to Z4, eight bytes each.
-use mathlib.Core.List.{List, [], _∷_, _++_}
+-- Hierocrypt-3's round keys: 002, section 2.3, in its order, with 01's repairs ('Hierocrypt-3'). An intermediate key Z is Z1 to Z4, eight bytes each. The
+-- constants of section 2.3.1 are in hierocrypt3_tables/Constants.
+use mathlib.Core.List.{List, _++_}
 use Prim.Native.Nat.{ℕ, zero, suc, _+_, _-_, _*_, _/_, _%_}
 use lib.Dec.{leb}
 use lib.ListN.{length, getD}
@@ -7,54 +8,20 @@ use Rattle.laws.specs.Choice.{choose}
 use Rattle.laws.specs.Places.{tab, part}
 use Rattle.laws.specs.Bytes.{xorL}
 use Rattle.hierocrypt3_keys.specs.Operations.{P, P⁻, M5E, MB3, Fσ}
-use Rattle.hierocrypt3.specs.Block.{T}
+use Rattle.hierocrypt3_tables.specs.Constants.{byLength, H2, H3, G0, constant}
+use Rattle.hierocrypt3_steps.specs.Rounds.{T}
 use Rattle.hierocrypt3_keys.specs.declared.Intermediate.{Intermediate}
-
--- one of three, for a key of 16, 24 or 32 bytes
-abbrev pub third : {A : Type 0} → ℕ → A → A → A → A
-third zero a b c = a
-third (suc zero) a b c = b
-third (suc (suc n)) a b c = c
-
-abbrev pub byLength : {A : Type 0} → ℕ → A → A → A → A
-byLength len a b c = third (len / 8 - 2) a b c
 
 infixl 60 _⊕_
 abbrev pub _⊕_ : List ℕ → List ℕ → List ℕ
 x ⊕ y = xorL 8 x y
 
--- ---- the constants (section 2.3.1)
-abbrev pub H0 : List ℕ
-H0 = 0x5a ∷ 0x82 ∷ 0x79 ∷ 0x99 ∷ []
+-- t_turn, the last step of the plaintext side
+abbrev pub tTurn : ℕ → ℕ
+tTurn len = byLength len 4 4 5
 
-abbrev pub H1 : List ℕ
-H1 = 0x6e ∷ 0xd9 ∷ 0xeb ∷ 0xa1 ∷ []
-
-abbrev pub H2 : List ℕ
-H2 = 0x8f ∷ 0x1b ∷ 0xbc ∷ 0xdc ∷ []
-
-abbrev pub H3 : List ℕ
-H3 = 0xca ∷ 0x62 ∷ 0xc1 ∷ 0xd6 ∷ []
-
-abbrev pub G0 : ℕ → List ℕ
-G0 i = getD ((H3 ++ H0) ∷ (H2 ++ H1) ∷ (H1 ++ H3) ∷ (H0 ++ H2) ∷ (H2 ++ H3) ∷ (H1 ++ H0) ∷ []) i []
-
--- which G0 is the constant of step t = 1, 2, .. (tables 1 to 3)
-abbrev pub row : ℕ → List ℕ
-row len =
-    byLength len
-    (0 ∷ 1 ∷ 2 ∷ 3 ∷ 3 ∷ 2 ∷ 1 ∷ [])
-    (1 ∷ 0 ∷ 3 ∷ 2 ∷ 2 ∷ 3 ∷ 0 ∷ 1 ∷ [])
-    (4 ∷ 0 ∷ 2 ∷ 1 ∷ 3 ∷ 3 ∷ 1 ∷ 2 ∷ 0 ∷ [])
-
-abbrev pub constant : ℕ → ℕ → List ℕ
-constant len t = G0 (getD (row len) (t - 1) 0)
-
--- the last step of the plaintext side
-abbrev pub turn : ℕ → ℕ
-turn len = byLength len 4 4 5
-
--- ---- padding and pre-whitening (section 2.3.2)
+-- ---- padding and pre-whitening (section 2.3.2). 002 says that keys of 192 and 256 bits are padded; those of 128 and 192 are (01), with the H of 01,
+-- whose digits the print has lost
 abbrev pub quarter : List ℕ → ℕ → List ℕ
 quarter k i = part 0 (i * 8) 8 k
 
@@ -76,6 +43,8 @@ unfoldable pub σ : List ℕ → Intermediate → Intermediate
     let w = P 4 (z .z3 ++ z .z4) in
     σ0 g (record { z1 = z .z1; z2 = z .z2; z3 = part 0 0 8 w; z4 = part 0 8 8 w })
 
+-- σ⁻ departs from 002's formula three times, as 01 and 000 have it: the constant of step t is that of row t and not of the row before; it is xored in
+-- before MB3 and not behind it; and P^(32) is inverse, whose -1 the print has lost. That it undoes σ is `σ-inverse`, hierocrypt3_undo/Sigma.
 abbrev pub W1 : List ℕ → Intermediate → List ℕ
 W1 g z = MB3 (z .z3 ⊕ g)
 
@@ -87,15 +56,16 @@ unfoldable pub σ⁻ : List ℕ → Intermediate → Intermediate
     let x = P⁻ 4 (W1 g z ++ W2 z) in
     record { z1 = z .z2 ⊕ Fσ (z .z1 ⊕ z .z3); z2 = z .z1; z3 = part 0 0 8 x; z4 = part 0 8 8 x }
 
--- step t, for a key of `len` bytes: up to the turn on the plaintext side, then on the ciphertext side
+-- step t, for a key of `len` bytes: up to t_turn on the plaintext side, then on the ciphertext side
 unfoldable pub next : ℕ → ℕ → Intermediate → Intermediate
-next len t z = choose (leb t (turn len)) (σ (constant len t) z) (σ⁻ (constant len t) z)
+next len t z = choose (leb t (tTurn len)) (σ (constant len t) z) (σ⁻ (constant len t) z)
 
+-- that they are symmetric about t_turn is `Z-symmetric`, hierocrypt3_undo/Symmetry
 unfoldable pub Z : List ℕ → ℕ → Intermediate
 Z key zero = σ0 (G0 5) (padding key)
 Z key (suc t) = next (length key) (suc t) (Z key t)
 
--- ---- the round keys (section 2.3.4), K1 K2 K3 K4, from the intermediate keys before and after step t
+-- ---- the round keys (section 2.3.4), K1 K2 K3 K4, from the intermediate keys before and after step t. 000 prints other ones; 002 decides (01)
 unfoldable pub plaintextSide : Intermediate → Intermediate → List ℕ
 plaintextSide before z =
     let v = Fσ (before .z2 ⊕ z .z3) in
@@ -107,7 +77,7 @@ ciphertextSide g before z =
     (z .z1 ⊕ before .z3) ++ (W1 g before ⊕ v) ++ (W2 before ⊕ v) ++ (before .z1 ⊕ W2 before)
 
 unfoldable pub keyOf : ℕ → ℕ → Intermediate → Intermediate → List ℕ
-keyOf len t before z = choose (leb t (turn len)) (plaintextSide before z) (ciphertextSide (constant len t) before z)
+keyOf len t before z = choose (leb t (tTurn len)) (plaintextSide before z) (ciphertextSide (constant len t) before z)
 
 unfoldable pub K : List ℕ → ℕ → List ℕ
 K key t = keyOf (length key) t (Z key (t - 1)) (Z key t)

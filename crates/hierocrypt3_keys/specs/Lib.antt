@@ -1,3 +1,3 @@
 pub mod Operations
 pub mod Keys
-pub mod Placed
+pub mod code

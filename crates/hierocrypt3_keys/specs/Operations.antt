@@ -6,12 +6,13 @@ use Rattle.laws.specs.Places.{tab, layer, part, quarters, joined}
 use Rattle.laws.specs.Bytes.{xorL}
 use Rattle.laws.specs.Matrix.{bitMatrix}
 use Rattle.hierocrypt3_tables.specs.Operations.{s}
-use Rattle.hierocrypt3.specs.Operations.{a, c, d}
+use Rattle.hierocrypt3_steps.specs.Operations.{a, c, d}
 
--- ---- P^(n) (section 3.8), on four values of m bytes, n = 8 m; and its inverse
+-- ---- P^(n) (section 3.8), on four values of m bytes, n = 8 m. 002's print has lost a row, which 01 has; 000 prints a wrong last one
 abbrev pub rowsP : List (List ℕ)
 rowsP = (1 ∷ 0 ∷ 1 ∷ 0 ∷ []) ∷ (0 ∷ 1 ∷ 0 ∷ 1 ∷ []) ∷ (0 ∷ 1 ∷ 1 ∷ 1 ∷ []) ∷ (1 ∷ 0 ∷ 1 ∷ 1 ∷ []) ∷ []
 
+-- the inverse, of which 002's print has lost two rows, is 000's; `P-inverse`, hierocrypt3_undo/P, decides it
 abbrev pub rowsP⁻ : List (List ℕ)
 rowsP⁻ = (1 ∷ 1 ∷ 1 ∷ 0 ∷ []) ∷ (1 ∷ 1 ∷ 0 ∷ 1 ∷ []) ∷ (0 ∷ 1 ∷ 1 ∷ 0 ∷ []) ∷ (1 ∷ 0 ∷ 0 ∷ 1 ∷ []) ∷ []
 
@@ -31,7 +32,7 @@ onHalves m n x = bitMatrix bitXor 0 4 m (part 0 0 4 x) ++ bitMatrix bitXor 0 4 n
 unfoldable pub M5E : List ℕ → List ℕ
 M5E = onHalves a c
 
--- the inverse of c
+-- MB3 is the inverse of M5E, by the inverses d of a and c⁻ of c; `M5E-inverse`, hierocrypt3_undo/M5E, decides it
 abbrev pub c⁻ : List (List ℕ)
 c⁻ = (1 ∷ 1 ∷ 0 ∷ 0 ∷ []) ∷ (0 ∷ 1 ∷ 1 ∷ 0 ∷ []) ∷ (1 ∷ 0 ∷ 1 ∷ 1 ∷ []) ∷ (1 ∷ 0 ∷ 0 ∷ 1 ∷ []) ∷ []
 

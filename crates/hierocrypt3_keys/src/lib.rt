@@ -6,16 +6,21 @@ use crate::operations::p32_first;
 use crate::operations::p32_inverse_first;
 use crate::operations::p32_inverse_second;
 use crate::operations::p32_second;
-use crate::operations::xor8;
+use hierocrypt3_tables::constants::G0;
+use hierocrypt3_tables::constants::H2_H3;
+use hierocrypt3_tables::constants::H3_H2;
+use hierocrypt3_tables::constants::constant;
 use hierocrypt3_tables::forward;
+use words::bytes::eight;
+use words::bytes::xor8;
 ghost use mathlib.Core.Path.{_≡_};
-ghost use Prim.Native.Nat.{_+_, _-_, _*_, _/_, _≤_, _<_};
+ghost use Prim.Native.Nat.{_+_, _/_, _≤_, _<_};
 ghost use lib.ListN.{length, getD};
-ghost use Rattle.laws.specs.Places.{tab, part};
-ghost use Rattle.hierocrypt3_tables.specs.Tables.{sTable};
-ghost use Rattle.hierocrypt3.specs.Block.{KeyLength};
-ghost use Rattle.hierocrypt3_keys.specs.Placed.{Placed, pieces};
-ghost use Rattle.hierocrypt3_keys.specs.Keys.{G0, row, constant, turn, padding, σ0, σ, σ⁻, next, plaintextSide, ciphertextSide, keyOf, roundKeys};
+ghost use Rattle.laws.specs.Places.{tab};
+ghost use Rattle.hierocrypt3_tables.specs.code.Tables.{sTable};
+ghost use Rattle.words.specs.KeyLength.{KeyLength};
+ghost use Rattle.hierocrypt3_keys.specs.code.Placed.{Placed, pieces};
+ghost use Rattle.hierocrypt3_keys.specs.Keys.{tTurn, padding, σ0, σ, σ⁻, next, plaintextSide, ciphertextSide, keyOf, roundKeys};
 
 mod operations;
 
@@ -35,72 +40,15 @@ pub struct RoundKey {
     pub k4: [u8; 8],
 }
 
-// G0(0) to G0(5), of H0 to H3 (section 2.3.1).
-const G0: [[u8; 8]; 6] = [
-    [0xca, 0x62, 0xc1, 0xd6, 0x5a, 0x82, 0x79, 0x99],
-    [0x8f, 0x1b, 0xbc, 0xdc, 0x6e, 0xd9, 0xeb, 0xa1],
-    [0x6e, 0xd9, 0xeb, 0xa1, 0xca, 0x62, 0xc1, 0xd6],
-    [0x5a, 0x82, 0x79, 0x99, 0x8f, 0x1b, 0xbc, 0xdc],
-    [0x8f, 0x1b, 0xbc, 0xdc, 0xca, 0x62, 0xc1, 0xd6],
-    [0x6e, 0xd9, 0xeb, 0xa1, 0x5a, 0x82, 0x79, 0x99],
-];
-
-// Which G0 is the constant of step 1, 2, .. for a key of 16, 24 and 32 bytes (tables 1 to 3).
-const ROW_16: [usize; 7] = [0, 1, 2, 3, 3, 2, 1];
-
-const ROW_24: [usize; 8] = [1, 0, 3, 2, 2, 3, 0, 1];
-
-const ROW_32: [usize; 9] = [4, 0, 2, 1, 3, 3, 1, 2, 0];
-
-// Which G0 is the constant of step t + 1.
-fn row_at(length: usize, t: usize) -> usize
-    requires { ⌜ KeyLength length × (t < length / 8 + 5) ⌝ }
-    ensures { λ r. ⌜ (r ≡ getD (row length) t 0) × (r < 6) ⌝ }
-{
-    if length == 16 {
-        return ROW_16[t];
-    }
-    if length == 24 {
-        return ROW_24[t];
-    }
-    ROW_32[t]
-}
-
-// The constant of step t + 1.
-fn constant(length: usize, t: usize) -> [u8; 8]
-    requires { ⌜ KeyLength length × (t < length / 8 + 5) ⌝ }
-    ensures { λ r. ⌜ r ≡ constant length (t + 1) ⌝ }
-{
-    G0[row_at(length, t)]
-}
-
-// Eight bytes of the key.
-fn key_part(key: &[u8], at: usize) -> [u8; 8]
-    requires { ⌜ at + 8 ≤ length (now key) ⌝ }
-    ensures { λ r. ⌜ r ≡ part 0 at 8 (now (key .entry)) ⌝ }
-{
-    [
-        key[at],
-        key[at + 1],
-        key[at + 2],
-        key[at + 3],
-        key[at + 4],
-        key[at + 5],
-        key[at + 6],
-        key[at + 7],
-    ]
-}
-
 // Padding (section 2.3.2).
 fn padding(key: &[u8]) -> Intermediate
     requires { ⌜ KeyLength (length (now key)) ⌝ }
     ensures { λ r. ⌜ r ≡ padding (now (key .entry)) ⌝ }
 {
-    let k1 = key_part(key, 0);
-    let k2 = key_part(key, 8);
+    let k1 = eight(key, 0);
+    let k2 = eight(key, 8);
     if key.len() == 16 {
-        // H3, H2
-        let h = [0xca, 0x62, 0xc1, 0xd6, 0x8f, 0x1b, 0xbc, 0xdc];
+        let h = H3_H2;
         return Intermediate {
             z1: k1,
             z2: k2,
@@ -108,10 +56,9 @@ fn padding(key: &[u8]) -> Intermediate
             z4: h,
         };
     }
-    let k3 = key_part(key, 16);
+    let k3 = eight(key, 16);
     if key.len() == 24 {
-        // H2, H3
-        let h = [0x8f, 0x1b, 0xbc, 0xdc, 0xca, 0x62, 0xc1, 0xd6];
+        let h = H2_H3;
         return Intermediate {
             z1: k1,
             z2: k2,
@@ -119,7 +66,7 @@ fn padding(key: &[u8]) -> Intermediate
             z4: h,
         };
     }
-    let k4 = key_part(key, 24);
+    let k4 = eight(key, 24);
     Intermediate {
         z1: k1,
         z2: k2,
@@ -129,7 +76,7 @@ fn padding(key: &[u8]) -> Intermediate
 }
 
 // Pre-whitening, with the constant g (section 2.3.2).
-fn pre_whitening(sbox: &[u8; 256], g: [u8; 8], z: Intermediate) -> Intermediate
+fn pre_whitening(sbox: &[u8], g: [u8; 8], z: Intermediate) -> Intermediate
     requires { ⌜ now sbox ≡ sTable ⌝ }
     ensures { λ r. ⌜ r ≡ σ0 g z ⌝ }
 {
@@ -149,7 +96,7 @@ fn pre_whitening(sbox: &[u8; 256], g: [u8; 8], z: Intermediate) -> Intermediate
 }
 
 // σ, with the constant g (section 2.3.3).
-fn sigma(sbox: &[u8; 256], g: [u8; 8], z: Intermediate) -> Intermediate
+fn sigma(sbox: &[u8], g: [u8; 8], z: Intermediate) -> Intermediate
     requires { ⌜ now sbox ≡ sTable ⌝ }
     ensures { λ r. ⌜ r ≡ σ g z ⌝ }
 {
@@ -163,8 +110,8 @@ fn sigma(sbox: &[u8; 256], g: [u8; 8], z: Intermediate) -> Intermediate
         sbox,
         g,
         Intermediate {
-            z1: z1,
-            z2: z2,
+            z1,
+            z2,
             z3: w1,
             z4: w2,
         },
@@ -172,7 +119,7 @@ fn sigma(sbox: &[u8; 256], g: [u8; 8], z: Intermediate) -> Intermediate
 }
 
 // The inverse of σ, with the constant g (section 2.3.3).
-fn sigma_inverse(sbox: &[u8; 256], g: [u8; 8], z: Intermediate) -> Intermediate
+fn sigma_inverse(sbox: &[u8], g: [u8; 8], z: Intermediate) -> Intermediate
     requires { ⌜ now sbox ≡ sTable ⌝ }
     ensures { λ r. ⌜ r ≡ σ⁻ g z ⌝ }
 {
@@ -194,7 +141,7 @@ fn sigma_inverse(sbox: &[u8; 256], g: [u8; 8], z: Intermediate) -> Intermediate
 }
 
 // The round key of a step on the plaintext side (section 2.3.4).
-fn plaintext_side(sbox: &[u8; 256], before: Intermediate, z: Intermediate) -> RoundKey
+fn plaintext_side(sbox: &[u8], before: Intermediate, z: Intermediate) -> RoundKey
     requires { ⌜ now sbox ≡ sTable ⌝ }
     ensures { λ r. ⌜ pieces r ≡ plaintextSide before z ⌝ }
 {
@@ -207,16 +154,11 @@ fn plaintext_side(sbox: &[u8; 256], before: Intermediate, z: Intermediate) -> Ro
     let k2 = xor8(z3, v);
     let k3 = xor8(z4, v);
     let k4 = xor8(b2, z4);
-    RoundKey {
-        k1: k1,
-        k2: k2,
-        k3: k3,
-        k4: k4,
-    }
+    RoundKey { k1, k2, k3, k4 }
 }
 
 // The round key of a step on the ciphertext side (section 2.3.4).
-fn ciphertext_side(sbox: &[u8; 256], g: [u8; 8], before: Intermediate, z: Intermediate) -> RoundKey
+fn ciphertext_side(sbox: &[u8], g: [u8; 8], before: Intermediate, z: Intermediate) -> RoundKey
     requires { ⌜ now sbox ≡ sTable ⌝ }
     ensures { λ r. ⌜ pieces r ≡ ciphertextSide g before z ⌝ }
 {
@@ -231,18 +173,13 @@ fn ciphertext_side(sbox: &[u8; 256], g: [u8; 8], before: Intermediate, z: Interm
     let k2 = xor8(w1, v);
     let k3 = xor8(w2, v);
     let k4 = xor8(b1, w2);
-    RoundKey {
-        k1: k1,
-        k2: k2,
-        k3: k3,
-        k4: k4,
-    }
+    RoundKey { k1, k2, k3, k4 }
 }
 
 // The last step of the plaintext side.
-fn turn(length: usize) -> usize
+fn t_turn(length: usize) -> usize
     requires { ⌜ KeyLength length ⌝ }
-    ensures { λ r. ⌜ r ≡ turn length ⌝ }
+    ensures { λ r. ⌜ r ≡ tTurn length ⌝ }
 {
     if length == 32 {
         return 5;
@@ -251,12 +188,12 @@ fn turn(length: usize) -> usize
 }
 
 // Step t + 1 on an intermediate key.
-fn next(sbox: &[u8; 256], length: usize, t: usize, z: Intermediate) -> Intermediate
+fn next(sbox: &[u8], length: usize, t: usize, z: Intermediate) -> Intermediate
     requires { ⌜ (now sbox ≡ sTable) × KeyLength length × (t < length / 8 + 5) ⌝ }
     ensures { λ r. ⌜ r ≡ next length (t + 1) z ⌝ }
 {
     let g = constant(length, t);
-    if t < turn(length) {
+    if t < t_turn(length) {
         return sigma(sbox, g, z);
     }
     sigma_inverse(sbox, g, z)
@@ -264,7 +201,7 @@ fn next(sbox: &[u8; 256], length: usize, t: usize, z: Intermediate) -> Intermedi
 
 // Round key t + 1, from the intermediate keys before and after step t + 1.
 fn round_key(
-    sbox: &[u8; 256],
+    sbox: &[u8],
     length: usize,
     t: usize,
     before: Intermediate,
@@ -273,7 +210,7 @@ fn round_key(
     requires { ⌜ (now sbox ≡ sTable) × KeyLength length × (t < length / 8 + 5) ⌝ }
     ensures { λ r. ⌜ pieces r ≡ keyOf length (t + 1) before z ⌝ }
 {
-    if t < turn(length) {
+    if t < t_turn(length) {
         return plaintext_side(sbox, before, z);
     }
     ciphertext_side(sbox, constant(length, t), before, z)

@@ -1,24 +1,15 @@
--- What the tables give at a byte.
-use mathlib.Core.Path.{_≡_}
-use Prim.Native.Nat.{ℕ}
-use lib.ListN.{getD}
+-- What a table lent as a slice gives at a byte: the byte is a place of it, and there stands the table's function.
+use mathlib.Core.Path.{_≡_, ap, _∙_, subst⁻¹}
+use mathlib.Core.List.{List}
+use Prim.Native.Nat.{ℕ, _<_}
+use lib.ListN.{length, getD}
+use Rattle.laws.specs.Places.{tab}
 use Rattle.laws.specs.Bytes.{Byte}
-use Rattle.laws.proofs.Places.{getD-tab}
-use Rattle.hierocrypt3_tables.specs.Operations.{s, s⁻}
-use Rattle.hierocrypt3_tables.specs.Tables.{sTable, sTable⁻, t, tTable, u, uTable}
+use Rattle.laws.proofs.Places.{length-tab, getD-tab}
 
-pub s-entry : (x : ℕ) → Byte x → getD sTable x 0 ≡ s x
-unfolding sTable
-s-entry x h = getD-tab 256 s x 0 h
+module _ (f : ℕ → ℕ) (table : List ℕ) (is : table ≡ tab 256 f) (x : ℕ) (byte : Byte x) where
+  pub place : x < length table
+  place = subst⁻¹ (λ (l : List ℕ). x < length l) is (rw length-tab byte)
 
-pub s⁻-entry : (x : ℕ) → Byte x → getD sTable⁻ x 0 ≡ s⁻ x
-unfolding sTable⁻
-s⁻-entry x h = getD-tab 256 s⁻ x 0 h
-
-pub t-entry : (x : ℕ) → Byte x → getD tTable x 0 ≡ t x
-unfolding tTable
-t-entry x h = getD-tab 256 t x 0 h
-
-pub u-entry : (x : ℕ) → Byte x → getD uTable x 0 ≡ u x
-unfolding uTable
-u-entry x h = getD-tab 256 u x 0 h
+  pub entry : getD table x 0 ≡ f x
+  entry = ap (λ (l : List ℕ). getD l x 0) is ∙ getD-tab 256 f x 0 byte

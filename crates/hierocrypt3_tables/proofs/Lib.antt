@@ -1,4 +1,3 @@
 pub mod Logs
 pub mod Sbox
 pub mod Entries
-pub mod MdsL

@@ -1,20 +1,18 @@
--- s and its inverse (002, section 3.6): their tables, each held to its rule by one test over all bytes. They undo one another.
+-- s and its inverse (002, section 3.6): their tables, each held to its rule by one test over all bytes.
 use mathlib.Core.Bool.{Bool}
 use mathlib.Core.Path.{_≡_, refl, sym, ap, _∙_}
 use mathlib.Core.List.{List, [], _∷_}
 use Prim.Native.Nat.{ℕ}
-use lib.Dec.{T, eqb, eqb→eq, ltb, ltb→lt}
+use lib.Dec.{T, eqb, eqb→eq}
 use lib.Bits.{bitXor}
 use lib.ListN.{getD}
 use Rattle.laws.specs.Bytes.{Byte}
-use Rattle.laws.specs.Inverse.{Inverse}
 use Rattle.laws.proofs.Test.{both, both-left, both-right}
 use Rattle.laws.proofs.Xor.{xor-cancel-r}
 use Rattle.laws.proofs.Places.{tab-is, getD-tab}
 use Rattle.laws.proofs.Table.{table-at}
-use Rattle.laws.proofs.Inverse.{alike}
 use Rattle.hierocrypt3_tables.specs.Operations.{s, s⁻, permuteBits, permuteBits⁻}
-use Rattle.hierocrypt3_tables.specs.Tables.{sTable, sTable⁻}
+use Rattle.hierocrypt3_tables.specs.code.Tables.{sTable, sTable⁻}
 use Rattle.hierocrypt3_tables.proofs.Logs.{powers, powerTest, power-by}
 
 -- ---- the tables, with the code's entries
@@ -87,29 +85,6 @@ pub s-entry : (x : ℕ) → Byte x → getD entries x 0 ≡ s x
 unfolding sTable
 s-entry x h = ap (λ (l : List ℕ). getD l x 0) entries-are ∙ getD-tab 256 s x 0 h
 
-s⁻-entry : (x : ℕ) → Byte x → getD entries⁻ x 0 ≡ s⁻ x
+pub s⁻-entry : (x : ℕ) → Byte x → getD entries⁻ x 0 ≡ s⁻ x
 unfolding sTable⁻
 s⁻-entry x h = ap (λ (l : List ℕ). getD l x 0) entries⁻-are ∙ getD-tab 256 s⁻ x 0 h
-
--- ---- they undo one another
-entry-lt : (x : ℕ) → Byte x → Byte (getD entries x 0)
-unfolding entries
-entry-lt x h = ltb→lt (getD entries x 0) 256 (table-at (λ k y. ltb y 256) entries tt x h)
-
-entry⁻-lt : (x : ℕ) → Byte x → Byte (getD entries⁻ x 0)
-unfolding entries⁻
-entry⁻-lt x h = ltb→lt (getD entries⁻ x 0) 256 (table-at (λ k y. ltb y 256) entries⁻ tt x h)
-
-undo : (x : ℕ) → Byte x → getD entries⁻ (getD entries x 0) 0 ≡ x
-unfolding entries entries⁻
-undo x h = eqb→eq (getD entries⁻ (getD entries x 0) 0) x (table-at (λ k y. eqb (getD entries⁻ y 0) k) entries tt x h)
-
-redo : (x : ℕ) → Byte x → getD entries (getD entries⁻ x 0) 0 ≡ x
-unfolding entries entries⁻
-redo x h = eqb→eq (getD entries (getD entries⁻ x 0) 0) x (table-at (λ k y. eqb (getD entries y 0) k) entries⁻ tt x h)
-
-by-entries : Inverse Byte (λ x. getD entries x 0) (λ x. getD entries⁻ x 0)
-by-entries = record { on = entry-lt; off = entry⁻-lt; undo = undo; redo = redo }
-
-pub s-inverse : Inverse Byte s s⁻
-s-inverse = alike by-entries s-entry s⁻-entry

@@ -1,2 +1,3 @@
 pub mod Operations
-pub mod Tables
+pub mod Constants
+pub mod code

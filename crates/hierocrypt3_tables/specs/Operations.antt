@@ -1,15 +1,17 @@
--- Hierocrypt-3 on a byte and on a column of four: 002, sections 3.6 and 3.7, in its names; 01 ('Hierocrypt-3') where its print is broken.
+-- Hierocrypt-3 on a byte and on a column of four: s and mds_L, 002, sections 3.6 and 3.7, in its names.
 use mathlib.Core.List.{List, [], _∷_, map}
 use Prim.Native.Nat.{ℕ, _-_, _*_, _+_, _/_, _%_, _^_}
 use lib.Bits.{bitXor}
 use Rattle.laws.specs.Matrix.{matrix}
 use Rattle.laws.specs.Field.{product, power}
 
--- the field of z^8 + z^6 + z^5 + z + 1
+-- the field of z^8 + z^6 + z^5 + z + 1 (section 3.7)
 abbrev pub p : ℕ
 p = 0x163
 
--- ---- s (section 3.6): permute the bits, power 247, xor 07; and its inverse
+-- ---- s: permute the bits, power 247, xor 07
+-- Section 3.6 has s by its table alone, in which some entries are misprinted. The rule is that of 01, which decides, and of 000, whose print of the powers
+-- 247 and 223 is broken.
 -- bit i of a byte, bit 1 the highest
 abbrev pub bit : ℕ → ℕ → ℕ
 bit x i = x / 2 ^ (8 - i) % 2
@@ -32,6 +34,7 @@ permuteBits⁻ = bits (8 ∷ 6 ∷ 1 ∷ 7 ∷ 3 ∷ 5 ∷ 2 ∷ 4 ∷ [])
 unfoldable pub s : ℕ → ℕ
 s x = bitXor (power p (permuteBits x) 247) 0x07
 
+-- `s-inverse`, hierocrypt3_undo/Substitution, decides that this is the inverse
 unfoldable pub s⁻ : ℕ → ℕ
 s⁻ y = permuteBits⁻ (power p (bitXor y 0x07) 223)
 
@@ -44,7 +47,7 @@ rowsL =
     ∷ (0x65 ∷ 0xc8 ∷ 0x8b ∷ 0xc4 ∷ [])
     ∷ []
 
--- the inverse's first row is that of 000
+-- 000 has the inverse, 002 has not; `mdsL-inverse`, hierocrypt3_undo/MdsL, decides it
 abbrev pub rowsL⁻ : List (List ℕ)
 rowsL⁻ =
     (0x82 ∷ 0xc4 ∷ 0x34 ∷ 0xf6 ∷ [])

@@ -2,7 +2,7 @@
 // many blocks copies the tables once and lends them down.
 ghost use mathlib.Core.Path.{_≡_};
 ghost use Rattle.hierocrypt3_tables.specs.Operations.{s};
-ghost use Rattle.hierocrypt3_tables.specs.Tables.{sTable, t, tTable};
+ghost use Rattle.hierocrypt3_tables.specs.code.Tables.{sTable, t, tTable};
 
 const SBOX: [u8; 256] = [
     0x07,
@@ -537,7 +537,7 @@ pub fn t_table() -> [u32; 256]
 }
 
 // s(x), read in its table.
-pub fn s_at(sbox: &[u8; 256], x: u8) -> u8
+pub fn s_at(sbox: &[u8], x: u8) -> u8
     requires { ⌜ now sbox ≡ sTable ⌝ }
     ensures { λ r. ⌜ r ≡ s x ⌝ }
 {
@@ -545,7 +545,7 @@ pub fn s_at(sbox: &[u8; 256], x: u8) -> u8
 }
 
 // The products of s(x), read in their table.
-pub fn t_at(table: &[u32; 256], x: u8) -> u32
+pub fn t_at(table: &[u32], x: u8) -> u32
     requires { ⌜ now table ≡ tTable ⌝ }
     ensures { λ r. ⌜ r ≡ t x ⌝ }
 {

@@ -1,7 +1,7 @@
 // The tables of the inverses of s and mds_L (002, sections 3.6 and 3.7), copied once and lent down as those of `forward` are.
 ghost use mathlib.Core.Path.{_≡_};
 ghost use Rattle.hierocrypt3_tables.specs.Operations.{s⁻};
-ghost use Rattle.hierocrypt3_tables.specs.Tables.{sTable⁻, u, uTable};
+ghost use Rattle.hierocrypt3_tables.specs.code.Tables.{sTable⁻, u, uTable};
 
 const UNSBOX: [u8; 256] = [
     0xb8,
@@ -536,7 +536,7 @@ pub fn u_table() -> [u32; 256]
 }
 
 // The inverse of s at x, read in its table.
-pub fn s_inverse_at(unsbox: &[u8; 256], x: u8) -> u8
+pub fn s_inverse_at(unsbox: &[u8], x: u8) -> u8
     requires { ⌜ now unsbox ≡ sTable⁻ ⌝ }
     ensures { λ r. ⌜ r ≡ s⁻ x ⌝ }
 {
@@ -544,7 +544,7 @@ pub fn s_inverse_at(unsbox: &[u8; 256], x: u8) -> u8
 }
 
 // The products of x, read in their table.
-pub fn u_at(table: &[u32; 256], x: u8) -> u32
+pub fn u_at(table: &[u32], x: u8) -> u32
     requires { ⌜ now table ≡ uTable ⌝ }
     ensures { λ r. ⌜ r ≡ u x ⌝ }
 {

@@ -16,7 +16,7 @@ use Rattle.laws.specs.Bytes.{Word, xorL}
 use Rattle.laws.proofs.Test.{both, both-left, both-right, same, same-equal}
 use Rattle.laws.proofs.Xor.{not-digit}
 use Rattle.laws.proofs.Places.{each-head, each-tail, each-cons}
-use Rattle.laws.proofs.XorLists.{zeros, xorL-cons, xorL-zeros-l}
+use Rattle.laws.proofs.XorLists.{zeroList, xorL-cons, xorL-zeros-l}
 
 -- ---- one word
 abbrev pub bitsTest : ℕ → (ℕ → Bool) → Bool
@@ -58,10 +58,10 @@ Additive w n m F = (a b : List ℕ) → Each (Word w) 0 n a → Each (Word w) 0 
 
 abbrev pub basisTest : ℕ → ℕ → (List ℕ → Bool) → Bool
 basisTest zero w t = t []
-basisTest (suc n) w t = both (bitsTest w (λ x. t (x ∷ zeros n))) (basisTest n w (λ xs. t (0 ∷ xs)))
+basisTest (suc n) w t = both (bitsTest w (λ x. t (x ∷ zeroList n))) (basisTest n w (λ xs. t (0 ∷ xs)))
 
-each-zeros : (n w : ℕ) → Each (Word w) 0 n (zeros n)
-each-zeros n w = record { long = length-replicate n 0; each = λ j h. subst (Word w) (sym (getD-replicate n j 0 0 h)) (pow-pos w) }
+each-zeroList : (n w : ℕ) → Each (Word w) 0 n (zeroList n)
+each-zeroList n w = record { long = length-replicate n 0; each = λ j h. subst (Word w) (sym (getD-replicate n j 0 0 h)) (pow-pos w) }
 
 pub lists-agree : (w n m : ℕ) (F G : List ℕ → List ℕ) → Additive w n m F → Additive w n m G → T (basisTest n w (λ xs. same (F xs) (G xs)))
     → (xs : List ℕ) → Each (Word w) 0 n xs → F xs ≡ G xs
@@ -69,8 +69,8 @@ lists-agree w zero m F G hF hG t [] e = same-equal (F []) (G []) t
 lists-agree w zero m F G hF hG t (x ∷ xs) e = let l = e .long in absurd (omega arith)
 lists-agree w (suc n) m F G hF hG t [] e = let l = e .long in absurd (omega arith)
 lists-agree w (suc n) m F G hF hG t (x ∷ xs) e =
-    let z : List ℕ = zeros n in
-    let gz : Each (Word w) 0 n z = each-zeros n w in
+    let z : List ℕ = zeroList n in
+    let gz : Each (Word w) 0 n z = each-zeroList n w in
     let gx : Each (Word w) 0 n xs = each-tail e in
     let first : (y : ℕ) → Word w y → Each (Word w) 0 (suc n) (y ∷ z) = λ y h. each-cons h gz in
     let rest : (l : List ℕ) → Each (Word w) 0 n l → Each (Word w) 0 (suc n) (0 ∷ l) = λ l g. each-cons (pow-pos w) g in

@@ -87,8 +87,6 @@ module _ {A : Type 0} where
   pub fill-end : {n : ℕ} {f : ℕ → A} {d : A} {i : ℕ} {r : List A} → Filled n f d i r → n ≤ i → r ≡ tab n f
   fill-end {n} {f} {d} {i} {r} w h = tab-is n f d r (w .long) (λ j lt. w .done j (omega arith))
 
-pub ruleset fills = (fill-start, fill-step, fill-end)
-
 -- ---- layer
 pub layer-undo : {A B : Type 0} (n : ℕ) (d : A) (e : B) (f : ℕ → A → B) (g : ℕ → B → A) (xs : List A) → length xs ≡ n
     → ((j : ℕ) → j < n → g j (f j (getD xs j d)) ≡ getD xs j d) → layer n e g (layer n d f xs) ≡ xs

@@ -54,16 +54,6 @@ pub words-append : (w : ℕ) (xs ys : List ℕ) → Words w xs → Words w ys �
 words-append w [] ys h l = l
 words-append w (x ∷ xs) ys h l = (h .0, words-append w xs ys (h .1) l)
 
-pub bytes-take : (m n : ℕ) (xs : List ℕ) → Bytes (m + n) xs → Bytes m (take m xs)
-bytes-take m n xs h =
-    let e = h .long in
-    each-words 8 m (take m xs) (length-take-le m xs (omega arith)) (words-take 8 m xs (words-each 8 (m + n) xs h))
-
-pub bytes-drop : (m n : ℕ) (xs : List ℕ) → Bytes (m + n) xs → Bytes n (drop m xs)
-bytes-drop m n xs h =
-    let e = h .long in
-    each-words 8 n (drop m xs) (omega (arith, length-drop m xs)) (words-drop 8 m xs (words-each 8 (m + n) xs h))
-
 pub bytes-append : (m n : ℕ) (xs ys : List ℕ) → Bytes m xs → Bytes n ys → Bytes (m + n) (xs ++ ys)
 bytes-append m n xs ys h l =
     let e = h .long in

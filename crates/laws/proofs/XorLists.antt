@@ -9,8 +9,8 @@ use Rattle.laws.specs.Bytes.{Word, Bytes, xorL}
 use Rattle.laws.proofs.Xor.{xor-assoc, xor-cancel-r}
 use Rattle.laws.proofs.Places.{length-tab, getD-tab, tab-is, tab-equal, tabFrom-suc, each-tab}
 
-abbrev pub zeros : ℕ → List ℕ
-zeros n = replicate n 0
+abbrev pub zeroList : ℕ → List ℕ
+zeroList n = replicate n 0
 
 pub length-xorL : (n : ℕ) (a b : List ℕ) → length (xorL n a b) ≡ n
 length-xorL n a b = length-tab n (λ j. bitXor (getD a j 0) (getD b j 0))
@@ -28,22 +28,12 @@ xorL-words w n a b h l =
 pub xorL-bytes : (n : ℕ) (a b : List ℕ) → Bytes n a → Bytes n b → Bytes n (xorL n a b)
 xorL-bytes = xorL-words 8
 
-pub xorL-comm : (n : ℕ) (a b : List ℕ) → xorL n a b ≡ xorL n b a
-xorL-comm n a b =
-    tab-equal n (λ j. bitXor (getD a j 0) (getD b j 0)) (λ j. bitXor (getD b j 0) (getD a j 0)) 0 (λ j h. xor-comm (getD a j 0) (getD b j 0))
-
-pub xorL-assoc : (n : ℕ) (a b c : List ℕ) → xorL n (xorL n a b) c ≡ xorL n a (xorL n b c)
-xorL-assoc n a b c =
-    tab-equal n (λ j. bitXor (getD (xorL n a b) j 0) (getD c j 0)) (λ j. bitXor (getD a j 0) (getD (xorL n b c) j 0)) 0
-    (λ j h. ap (λ (x : ℕ). bitXor x (getD c j 0)) (getD-xorL n a b j h)
-    ∙ xor-assoc (getD a j 0) (getD b j 0) (getD c j 0) ∙ ap (bitXor (getD a j 0)) (sym (getD-xorL n b c j h)))
-
 pub xorL-cancel-r : (n : ℕ) (a b : List ℕ) → length a ≡ n → xorL n (xorL n a b) b ≡ a
 xorL-cancel-r n a b e =
     sym (tab-is n (λ j. bitXor (getD (xorL n a b) j 0) (getD b j 0)) 0 a e
     (λ j h. sym (ap (λ (x : ℕ). bitXor x (getD b j 0)) (getD-xorL n a b j h) ∙ xor-cancel-r (getD a j 0) (getD b j 0))))
 
-pub xorL-zeros-l : (n : ℕ) (a : List ℕ) → length a ≡ n → xorL n (zeros n) a ≡ a
+pub xorL-zeros-l : (n : ℕ) (a : List ℕ) → length a ≡ n → xorL n (zeroList n) a ≡ a
 xorL-zeros-l n a e =
-    sym (tab-is n (λ j. bitXor (getD (zeros n) j 0) (getD a j 0)) 0 a e
+    sym (tab-is n (λ j. bitXor (getD (zeroList n) j 0) (getD a j 0)) 0 a e
     (λ j h. sym (ap (λ (x : ℕ). bitXor x (getD a j 0)) (getD-replicate n j 0 0 h))))

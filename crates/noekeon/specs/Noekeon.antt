@@ -1,5 +1,5 @@
--- Noekeon, direct key: 003, in its names and order, as 01 takes it ('Noekeon'). A block P and a key K are four words of 32 bits, P0 P1 P2 P3 and K0 K1 K2 K3.
--- θ is written over any S, so that another S is another Noekeon.
+-- Noekeon, direct key: 003 as it stands, in its names and order; 01 ('Noekeon') repairs nothing. A block P and a key K are four words of 32 bits,
+-- P0 P1 P2 P3 and K0 K1 K2 K3. θ is written over any S, so that another S is another Noekeon.
 use mathlib.Core.List.{List, [], _∷_}
 use Prim.Native.Nat.{ℕ, _-_, _*_, _/_, _%_, _^_}
 use lib.Bits.{bitAnd, bitOr, bitXor}
@@ -23,7 +23,7 @@ abbrev pub θ : (ℕ → ℕ) → Quad → Quad → Quad
     let u = s (bitXor q1 q3) in
     record { p0 = bitXor q0 u; p1 = q1; p2 = bitXor q2 u; p3 = q3 }
 
--- ---- γ
+-- ---- γ, with ¬ as inverted
 abbrev pub inverted : ℕ → ℕ
 inverted x = (2 ^ 32 - 1) - x
 
@@ -64,6 +64,6 @@ store p = bytesOf (p .p0 ∷ p .p1 ∷ p .p2 ∷ p .p3 ∷ [])
 unfoldable pub encipher : List ℕ → List ℕ → List ℕ
 encipher keys block = store (cipher S (load keys) (load block))
 
--- with θ(0, K) in the place of K
+-- with θ(0, K), 003's K^(d), in the place of K
 unfoldable pub decipher : List ℕ → List ℕ → List ℕ
 decipher keys block = store (cipher S (θ S zeroKey (load keys)) (load block))

@@ -1,11 +1,12 @@
 // Noekeon, direct key (003): one block both ways, on four words of 32 bits by value, and the round keys.
 ghost use mathlib.Core.Path.{_≡_};
-ghost use Prim.Native.Nat.{_<_};
-ghost use lib.ListN.{getD};
-ghost use Rattle.laws.specs.Places.{tab, part};
-ghost use Rattle.laws.specs.Bytes.{word};
-ghost use Rattle.laws.specs.Turn.{rol};
+ghost use Prim.Native.Nat.{_≤_, _<_};
+ghost use lib.ListN.{length, getD};
+ghost use Rattle.laws.specs.Places.{tab};
 ghost use Rattle.noekeon.specs.Noekeon.{S, θ, γ, π1, π2, round, cipher, zeroKey, load, store, encipher, decipher};
+use words::word::put;
+use words::word::rotated;
+use words::word::word_at;
 
 pub struct Quad {
     pub p0: u32,
@@ -51,21 +52,14 @@ fn gamma(p: Quad) -> Quad
     }
 }
 
-fn rotate(x: u32, n: u32) -> u32
-    requires { ⌜ (0 < n) × (n < 32) ⌝ }
-    ensures { λ r. ⌜ r ≡ rol 32 n x ⌝ }
-{
-    (x << n) | (x >> (32 - n))
-}
-
 fn pi1(p: Quad) -> Quad
     ensures { λ r. ⌜ r ≡ π1 p ⌝ }
 {
     Quad {
         p0: p.p0,
-        p1: rotate(p.p1, 1),
-        p2: rotate(p.p2, 5),
-        p3: rotate(p.p3, 2),
+        p1: rotated(p.p1, 1),
+        p2: rotated(p.p2, 5),
+        p3: rotated(p.p3, 2),
     }
 }
 
@@ -75,9 +69,9 @@ fn pi2(p: Quad) -> Quad
 {
     Quad {
         p0: p.p0,
-        p1: rotate(p.p1, 31),
-        p2: rotate(p.p2, 27),
-        p3: rotate(p.p3, 30),
+        p1: rotated(p.p1, 31),
+        p2: rotated(p.p2, 27),
+        p3: rotated(p.p3, 30),
     }
 }
 
@@ -100,75 +94,28 @@ fn work(k: Quad, p: Quad) -> Quad
     theta(k, q)
 }
 
-fn word_of(a: u8, b: u8, c: u8, d: u8) -> u32
-    ensures { λ r. ⌜ r ≡ word a b c d ⌝ }
-{
-    (a as u32) * 16777216 + (b as u32) * 65536 + (c as u32) * 256 + (d as u32)
-}
-
-fn load_block(b: [u8; 16]) -> Quad
-    ensures { λ r. ⌜ r ≡ load b ⌝ }
+// Four words, of a block or of K at the front of the round keys.
+fn load(bytes: &[u8]) -> Quad
+    requires { ⌜ 16 ≤ length (now bytes) ⌝ }
+    ensures { λ r. ⌜ r ≡ load (now (bytes .entry)) ⌝ }
 {
     Quad {
-        p0: word_of(b[0], b[1], b[2], b[3]),
-        p1: word_of(b[4], b[5], b[6], b[7]),
-        p2: word_of(b[8], b[9], b[10], b[11]),
-        p3: word_of(b[12], b[13], b[14], b[15]),
+        p0: word_at(bytes, 0),
+        p1: word_at(bytes, 4),
+        p2: word_at(bytes, 8),
+        p3: word_at(bytes, 12),
     }
 }
 
-// K, which stands at the front of the round keys.
-fn key_of(keys: &[u8; 288]) -> [u8; 16]
-    ensures { λ r. ⌜ r ≡ part 0 0 16 (now (keys .entry)) ⌝ }
-{
-    [
-        keys[0],
-        keys[1],
-        keys[2],
-        keys[3],
-        keys[4],
-        keys[5],
-        keys[6],
-        keys[7],
-        keys[8],
-        keys[9],
-        keys[10],
-        keys[11],
-        keys[12],
-        keys[13],
-        keys[14],
-        keys[15],
-    ]
-}
-
-fn store_block(p: Quad) -> [u8; 16]
+fn store(p: Quad) -> [u8; 16]
     ensures { λ r. ⌜ r ≡ store p ⌝ }
 {
-    [
-        (p.p0 / 16777216) as u8,
-        (p.p0 / 65536 % 256) as u8,
-        (p.p0 / 256 % 256) as u8,
-        (p.p0 % 256) as u8,
-        (p.p1 / 16777216) as u8,
-        (p.p1 / 65536 % 256) as u8,
-        (p.p1 / 256 % 256) as u8,
-        (p.p1 % 256) as u8,
-        (p.p2 / 16777216) as u8,
-        (p.p2 / 65536 % 256) as u8,
-        (p.p2 / 256 % 256) as u8,
-        (p.p2 % 256) as u8,
-        (p.p3 / 16777216) as u8,
-        (p.p3 / 65536 % 256) as u8,
-        (p.p3 / 256 % 256) as u8,
-        (p.p3 % 256) as u8,
-    ]
-}
-
-// The working key to encipher with: K.
-fn encipher_key(keys: &[u8; 288]) -> Quad
-    ensures { λ r. ⌜ r ≡ load (now (keys .entry)) ⌝ }
-{
-    load_block(key_of(keys))
+    let mut r = [0u8; 16];
+    put(&mut r, 0, p.p0);
+    put(&mut r, 4, p.p1);
+    put(&mut r, 8, p.p2);
+    put(&mut r, 12, p.p3);
+    r
 }
 
 // The working key to decipher with: θ(0, K).
@@ -181,20 +128,22 @@ fn decipher_key(keys: &[u8; 288]) -> Quad
         p2: 0,
         p3: 0,
     };
-    theta(zero, encipher_key(keys))
+    theta(zero, load(keys))
 }
 
 // One block under a working key.
 fn block_with(k: Quad, block: [u8; 16]) -> [u8; 16]
     ensures { λ r. ⌜ r ≡ store (cipher S k (load block)) ⌝ }
 {
-    store_block(work(k, load_block(block)))
+    let p = load(&block);
+    let q = work(k, p);
+    store(q)
 }
 
 pub fn encipher(keys: &[u8; 288], block: [u8; 16]) -> [u8; 16]
     ensures { λ r. ⌜ r ≡ encipher (now (keys .entry)) block ⌝ }
 {
-    block_with(encipher_key(keys), block)
+    block_with(load(keys), block)
 }
 
 pub fn decipher(keys: &[u8; 288], block: [u8; 16]) -> [u8; 16]
@@ -203,14 +152,14 @@ pub fn decipher(keys: &[u8; 288], block: [u8; 16]) -> [u8; 16]
     block_with(decipher_key(keys), block)
 }
 
-// What stands at a place of the key, or 0 past its end.
-fn byte_at(key: &[u8], i: usize) -> u8
-    ensures { λ r. ⌜ r ≡ getD (now (key .entry)) i 0 ⌝ }
+// How many bytes of the key have room in the round keys.
+fn taken(key: &[u8]) -> usize
+    ensures { λ r. ⌜ (r ≤ 288) × (r ≤ length (now (key .entry))) × (r < 288 → r ≡ length (now (key .entry))) ⌝ }
 {
-    if i < key.len() {
-        return key[i];
+    if key.len() < 288 {
+        return key.len();
     }
-    0
+    288
 }
 
 // K at the front, and zeros.
@@ -218,9 +167,10 @@ pub fn round_keys(key: &[u8]) -> [u8; 288]
     ensures { λ r. ⌜ r ≡ tab 288 (λ n. getD (now (key .entry)) n 0) ⌝ }
 {
     let mut r = [0u8; 288];
+    let n = taken(key);
     let mut i: usize = 0;
-    while i < 288 {
-        r[i] = byte_at(key, i);
+    while i < n {
+        r[i] = key[i];
         i += 1;
     }
     r

@@ -1,2 +1,2 @@
--- What the texts of hex digits mean that the command reads.
-pub mod Hex
+-- What a file of hex digits is taken for.
+pub mod Spelled

@@ -1,18 +1,18 @@
 // A file of hex digits: the key's, and the first block's.
-use crate::hex;
-use crate::sentences;
-ghost use Prim.Native.Nat.{_≤_};
-ghost use lib.ListN.{length};
-ghost use mathlib.Core.Path.{_≡_};
-ghost use mathlib.Core.Bool.{true};
-ghost use Rattle.recipe.specs.Hex.{Spells};
+use crate::spot;
+use hex::Reading;
+use recipe_words::arguments;
+use recipe_words::sentences;
 ghost use Rattle.io.specs.Counts.{Counts};
+ghost use Rattle.recipe.specs.Spelled.{Spelled};
 
 // How many bytes were laid at the front of a space, if the file had them.
 pub struct Laid {
     pub ok: bool,
     pub len: usize,
 }
+
+const NOTHING: Laid = Laid { ok: false, len: 0 };
 
 // What one read of a byte gives: 1, 0 at the end, or a negative number where it fails.
 struct Got {
@@ -34,7 +34,7 @@ fn fill(fd: i32, text: &mut [u8]) -> Laid
     while n < text.len() {
         let got = one(fd);
         if got.count < 0 {
-            return Laid { ok: false, len: 0 };
+            return NOTHING;
         }
         if got.count == 0 {
             return Laid { ok: true, len: n };
@@ -45,50 +45,60 @@ fn fill(fd: i32, text: &mut [u8]) -> Laid
     Laid { ok: true, len: n }
 }
 
-// The bytes that a text of at most 4,096 characters spells.
+// The bytes that a text spells; where it spells none, a sentence says why.
 fn spelled(argument: usize, text: &[u8], bytes: &mut [u8]) -> Laid
-    requires { ⌜ (length (now text) ≤ 4096) × (2048 ≤ length (now bytes)) ⌝ }
-    ensures { λ r. ⌜ Counts (r .len) (now (bytes .exit)) × (r .ok ≡ true → Spells (now (text .entry)) (r .len) (now (bytes .exit))) ⌝ }
+    ensures { λ r. ⌜ Spelled (now (text .entry)) (now (bytes .entry)) r (now (bytes .exit)) ⌝ }
 {
-    let bad = hex::first_bad(text);
-    if bad < text.len() {
-        sentences::bad_character(argument, bad + 1);
-        return Laid { ok: false, len: 0 };
+    let r = hex::read(text, bytes);
+    match r {
+        Reading::Bytes(n) => Laid { ok: true, len: n },
+        Reading::BadCharacter(place) => {
+            let spot = spot::of(text, place);
+            sentences::bad_character(argument, text[place], spot.line, spot.place);
+            NOTHING
+        }
+        Reading::OddDigits(n) => {
+            sentences::odd_digits(argument, n);
+            NOTHING
+        }
+        Reading::NoRoom(_) => {
+            sentences::too_long(argument);
+            NOTHING
+        }
     }
-    let digits = hex::read(text, bytes);
-    if digits % 2 == 1 {
-        sentences::odd_digits(argument, digits);
-        return Laid { ok: false, len: 0 };
+}
+
+// The text of the file that an argument names; one that leaves no place free may go on, and is too long.
+fn text_of(argument: usize, text: &mut [u8]) -> Laid
+    ensures { λ r. ⌜ Counts (r .len) (now (text .exit)) ⌝ }
+{
+    let fd = arguments::file(argument);
+    if fd < 0 {
+        sentences::failed(b"failed: cannot open ", argument);
+        return NOTHING;
     }
-    Laid {
-        ok: true,
-        len: digits / 2,
+    let filled = fill(fd, text);
+    if !filled.ok {
+        sentences::failed(b"failed: cannot read ", argument);
+        return NOTHING;
     }
+    libc::close(fd);
+    if filled.len == text.len() {
+        sentences::too_long(argument);
+        return NOTHING;
+    }
+    filled
 }
 
 // The bytes of the file that an argument names.
 pub fn read(argument: usize, bytes: &mut [u8]) -> Laid
-    requires { ⌜ 2048 ≤ length (now bytes) ⌝ }
     ensures { λ r. ⌜ Counts (r .len) (now (bytes .exit)) ⌝ }
 {
-    let mut path = io::buffer();
-    let p = os::arg(argument, &mut path);
-    let fd = os::open_read(&path[..p]);
-    if fd < 0 {
-        sentences::failed(b"open ", argument);
-        return Laid { ok: false, len: 0 };
-    }
     let mut text = io::buffer();
-    let t = fill(fd, &mut text);
-    let n = t.len;
-    if !t.ok {
-        sentences::failed(b"read ", argument);
-        return Laid { ok: false, len: 0 };
+    let filled = text_of(argument, &mut text);
+    if !filled.ok {
+        return NOTHING;
     }
-    libc::close(fd);
-    if n == 4096 {
-        sentences::too_long(argument, 4095);
-        return Laid { ok: false, len: 0 };
-    }
+    let n = filled.len;
     spelled(argument, &text[..n], bytes)
 }

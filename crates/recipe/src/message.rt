@@ -1,7 +1,7 @@
 // The message: read, worked and written piece by piece.
-use crate::arguments;
-use crate::progress;
-use crate::sentences;
+use recipe_words::arguments;
+use recipe_words::progress;
+use recipe_words::sentences;
 use stream::Stream;
 
 // What a piece leaves: whether more may come, and the stream.
@@ -30,33 +30,22 @@ fn finish(to: i32, stream: Stream) {
         return;
     }
     if (libc::fsync(to) < 0) | (libc::close(to) < 0) {
-        sentences::failed(b"write ", 6);
+        sentences::failed(b"failed: cannot write ", arguments::OUTPUT);
         return;
     }
     sentences::done(stream.count);
 }
 
-// What one read gives, up to 4,096 bytes; with the bytes held, up to 15 more come out.
-fn piece(from: i32, to: i32, stream: Stream) -> Turn {
-    let mut bytes = io::buffer();
+// A piece of at most 4,096 bytes; with the bytes held, up to 15 more come out.
+fn work_piece(to: i32, stream: Stream, bytes: &[u8]) -> Turn {
     let mut out = [0u8; 4112];
-    let got = libc::read(from, &mut bytes);
-    if got < 0 {
-        sentences::failed(b"read ", 5);
-        return stop(stream);
-    }
-    let n = io::count(got, &bytes);
-    if n == 0 {
-        finish(to, stream);
-        return stop(stream);
-    }
-    let fed = stream.feed(&bytes[..n], &mut out);
+    let fed = stream.feed(bytes, &mut out);
     if fed.answer != refusals::DONE {
-        sentences::refused(fed.answer, stream.direction as u64, stream.count);
+        sentences::refused(fed.answer, stream.direction as u64, Stream::LIMIT);
         return stop(stream);
     }
     if !write_front(to, &out, fed.written as usize) {
-        sentences::failed(b"write ", 6);
+        sentences::failed(b"failed: cannot write ", arguments::OUTPUT);
         return stop(stream);
     }
     let next = fed.next;
@@ -67,12 +56,28 @@ fn piece(from: i32, to: i32, stream: Stream) -> Turn {
     }
 }
 
+// What one read gives, worked.
+fn read_piece(from: i32, to: i32, stream: Stream) -> Turn {
+    let mut bytes = io::buffer();
+    let got = libc::read(from, &mut bytes);
+    if got < 0 {
+        sentences::failed(b"failed: cannot read ", arguments::MESSAGE);
+        return stop(stream);
+    }
+    let n = io::count(got, &bytes);
+    if n == 0 {
+        finish(to, stream);
+        return stop(stream);
+    }
+    work_piece(to, stream, &bytes[..n])
+}
+
 // Each turn but the last takes a byte or more, and the stream takes LIMIT of them, so the turns suffice.
 fn pieces(from: i32, to: i32, begun: Stream) {
     let mut stream = begun;
     let mut turns = Stream::LIMIT + 1;
     while turns > 0 {
-        let turn = piece(from, to, stream);
+        let turn = read_piece(from, to, stream);
         let next = turn.stream;
         stream = next;
         if !turn.on {
@@ -85,17 +90,14 @@ fn pieces(from: i32, to: i32, begun: Stream) {
 
 // The message of the fifth argument to the file of the sixth.
 pub fn work(stream: Stream) {
-    let mut path = io::buffer();
-    let n = os::arg(5, &mut path);
-    let from = arguments::input(&path[..n]);
+    let from = arguments::file(arguments::MESSAGE);
     if from < 0 {
-        sentences::failed(b"open ", 5);
+        sentences::failed(b"failed: cannot open ", arguments::MESSAGE);
         return;
     }
-    let m = os::arg(6, &mut path);
-    let to = os::open_overwrite(&path[..m]);
+    let to = arguments::output();
     if to < 0 {
-        sentences::failed(b"write ", 6);
+        sentences::failed(b"failed: cannot write ", arguments::OUTPUT);
         return;
     }
     pieces(from, to, stream);

@@ -4,12 +4,10 @@ use mathlib.Core.List.{List, [], _∷_}
 use Prim.Native.Nat.{ℕ}
 use Rattle.laws.specs.Choice.{choose}
 
--- a cause: whether it applies, and its number
-abbrev pub first : List (Bool × ℕ) → ℕ
-first [] = 0
-first (c ∷ cs) = choose (c .0) (c .1) (first cs)
-
 -- ---- the table
+abbrev pub done : ℕ
+done = 0
+
 abbrev pub unknownCipher : ℕ
 unknownCipher = 1
 
@@ -44,6 +42,11 @@ abbrev pub blockLength : ℕ
 blockLength = 11
 
 -- ---- the orders: each argument says whether its cause applies
+-- the first of the causes that applies: each says whether it does, and its number
+abbrev pub first : List (Bool × ℕ) → ℕ
+first [] = done
+first (c ∷ cs) = choose (c .0) (c .1) (first cs)
+
 abbrev pub setUpOrder : (cipher length : Bool) → ℕ
 setUpOrder c l = first ((c, unknownCipher) ∷ (l, keyLength) ∷ [])
 

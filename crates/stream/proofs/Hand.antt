@@ -1,4 +1,4 @@
--- The bytes at hand: the first k of the held bytes h with a piece p behind them. What `byte_at`, `first_block`, `block_of`, `behind` and `left_over` read of them.
+-- The bytes at hand: the first k of the held bytes h with a piece p behind them. What `byte_at`, `first_block`, `behind` and `left_over` read of them.
 use mathlib.Core.Bool.{true}
 use mathlib.Core.Path.{_≡_, sym, ap, _∙_}
 use mathlib.Core.List.{List, _++_, append-nil}
@@ -7,8 +7,8 @@ use native.Mathlib.Nat.{le-refl}
 use native.Mathlib.Omega.{arith}
 use lib.ListN.{length, getD, set, take, drop, replicate, take-append-drop, length-append, length-drop, List·getD-append}
 use lib.Seq.{length-take-le, getD-take, getD-append-add, drop-append-add, drop-drop, getD-drop, take-at, take-all}
-use Rattle.cipher.specs.Schedule.{zeros}
-use Rattle.cipher.proofs.Fill.{zeros-are, fill-next}
+use Rattle.words.specs.Zeros.{zeros}
+use Rattle.words.proofs.Fill.{zeros-are, fill-next}
 use Rattle.stream.specs.State.{held15}
 
 module _ (h p : List ℕ) (k : ℕ) (fits : k ≤ length h) where
@@ -91,19 +91,7 @@ module _ (h p : List ℕ) (k n : ℕ) where
       let m : 16 * n ≡ length (take k h) + (16 * n - k) = omega arith in
       sym (ap (λ (i : ℕ). drop i (take k h ++ p)) m ∙ drop-append-add (take k h) p (16 * n - k))
 
--- ---- a message by its first block f and what stands in a piece p from a place on
-module _ (f p : List ℕ) (from : ℕ) (whole : length f ≡ 16) where
-  pub block-first : (j : ℕ) → j ≡ 0 → f ≡ take 16 (drop (16 * j) (f ++ drop from p))
-  block-first j none = rw none (sym (take-at f (drop from p) 16 whole))
-
-  pub block-later : (j : ℕ) → (j ≡ 0 → ⊥) → take 16 (drop (from + 16 * (j - 1)) p) ≡ take 16 (drop (16 * j) (f ++ drop from p))
-  block-later j some =
-      let m : 16 * j ≡ length f + 16 * (j - 1) = omega arith in
-      sym (ap (λ (n : ℕ). take 16 (drop n (f ++ drop from p))) m
-      ∙ ap (take 16) (drop-append-add f (drop from p) (16 * (j - 1)))
-      ∙ ap (take 16) (drop-drop (16 * (j - 1)) from p))
-
--- ---- the bytes at hand as such a message
+-- ---- the bytes at hand as their first block and the rest of the piece
 module _ (h p : List ℕ) (k : ℕ) (fits : k ≤ length h) where
   pub hand-split : k ≤ 16 → take 16 (take k h ++ p) ++ drop (16 - k) p ≡ take k h ++ p
   hand-split le =

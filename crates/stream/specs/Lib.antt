@@ -1,4 +1,3 @@
 pub mod State
 pub mod Calls
-pub mod Parts
-pub mod Demand3
+pub mod Promises

@@ -5,9 +5,19 @@ use Prim.Native.Nat.{ℕ, _-_, _%_}
 use lib.Dec.{ltb, eqb}
 use lib.ListN.{length, take, drop, replicate}
 use Rattle.laws.specs.Choice.{choose}
-use Rattle.cipher.specs.Ciphers.{isDirection}
-use Rattle.cipher.specs.Schedule.{zeros, bad, zeroSchedule}
+use Rattle.words.specs.Zeros.{zeros}
+use Rattle.cipher_numbers.specs.Ciphers.{isDirection}
+use Rattle.cipher.specs.Schedule.{bad, zeroSchedule}
+use Rattle.cipher.specs.declared.Schedule.{Schedule}
 use Rattle.stream.specs.declared.Stream.{Stream}
+
+-- a stream of these parts
+abbrev pub streamOf : Schedule → (direction count : ℕ) → (chain held : List ℕ) → (closed : Bool) → Stream
+streamOf s d n c h b = record { schedule = s; direction = d; count = n; chain = c; held = h; closed = b }
+
+-- a fresh one, from a first block
+abbrev pub fresh : Schedule → ℕ → List ℕ → Stream
+fresh s d first = streamOf s d 0 first (replicate 15 0) false
 
 -- the most bytes that a stream accepts
 abbrev pub limit : ℕ
@@ -36,4 +46,4 @@ badState s =
 
 -- what a refused start returns
 abbrev pub zeroStream : Stream
-zeroStream = record { schedule = zeroSchedule; direction = 0; count = 0; chain = replicate 16 0; held = replicate 15 0; closed = false }
+zeroStream = fresh zeroSchedule 0 (replicate 16 0)

@@ -2,11 +2,13 @@
 use cipher::Schedule;
 
 mod blocks;
+mod held;
 mod state;
 
 ghost use mathlib.Core.Path.{_≡_};
-ghost use lib.ListN.{length};
-ghost use Rattle.stream.specs.Calls.{start, refusedStart, feed, feedOut, finish};
+ghost use Rattle.stream.specs.State.{fresh, zeroStream};
+ghost use Rattle.stream.specs.Calls.{startedAs, fedAs};
+ghost use Rattle.stream.specs.Promises.{Starts, Feeds, Finishes};
 
 pub struct Stream {
     pub schedule: Schedule,
@@ -33,34 +35,36 @@ pub struct Finished {
     pub next: Stream,
 }
 
-// The all-zero stream, beside a refusal.
-fn refused(answer: u8) -> Started
-    ensures { λ r. ⌜ r ≡ refusedStart answer ⌝ }
+// A stream with nothing accepted yet.
+fn fresh(schedule: Schedule, direction: u8, first: [u8; 16]) -> Stream
+    ensures { λ r. ⌜ r ≡ fresh schedule direction first ⌝ }
 {
-    let schedule = Schedule {
-        round_keys: [0u8; 288],
-        cipher: 0,
-        key_length: 0,
-    };
-    let stream = Stream {
+    Stream {
         schedule: schedule,
-        direction: 0,
+        direction,
         count: 0,
-        chain: [0u8; 16],
+        chain: first,
         held: [0u8; 15],
         closed: false,
-    };
+    }
+}
+
+// A refused start, with the all-zero stream.
+fn not_started(answer: u8) -> Started
+    ensures { λ r. ⌜ r ≡ startedAs answer zeroStream ⌝ }
+{
+    let schedule = cipher::no_schedule();
+    let stream = fresh(schedule, 0, [0u8; 16]);
     Started { answer, stream }
 }
 
-// A refused piece: nothing written, and the stream as it was.
-fn not_fed(answer: u8, s: Stream) -> Fed
-    ensures { λ r. ⌜ r ≡ record { answer = answer; written = 0; next = s } ⌝ }
+fn fed_as(answer: u8, written: u64, next: Stream) -> Fed
+    ensures { λ r. ⌜ r ≡ fedAs answer written next ⌝ }
 {
     Fed {
         answer,
-        written: 0,
-        next: s,
+        written,
+        next: next,
     }
 }
 
@@ -70,26 +74,19 @@ impl Stream {
 
     // A fresh stream under a schedule, in a direction, from a first block.
     pub fn start(schedule: Schedule, direction: u64, first: &[u8]) -> Started
-        ensures { λ r. ⌜ r ≡ start schedule direction (now (first .entry)) ⌝ }
+        ensures { λ r. ⌜ Starts schedule direction (now (first .entry)) r ⌝ }
     {
         if cipher::bad_schedule(schedule) {
-            return refused(refusals::BAD_SCHEDULE);
+            return not_started(refusals::BAD_SCHEDULE);
         }
-        if !cipher::ciphers::is_direction(direction) {
-            return refused(refusals::DIRECTION);
+        if !cipher_numbers::is_direction(direction) {
+            return not_started(refusals::DIRECTION);
         }
         if first.len() != 16 {
-            return refused(refusals::FIRST_BLOCK_LENGTH);
+            return not_started(refusals::FIRST_BLOCK_LENGTH);
         }
-        let chain = cipher::bytes::block_at(first, 0);
-        let stream = Stream {
-            schedule: schedule,
-            direction: (direction % 256) as u8,
-            count: 0,
-            chain: chain,
-            held: [0u8; 15],
-            closed: false,
-        };
+        let block = words::bytes::block_at(first, 0);
+        let stream = fresh(schedule, (direction % 256) as u8, block);
         Started {
             answer: refusals::DONE,
             stream,
@@ -98,18 +95,17 @@ impl Stream {
 
     // A piece: its whole blocks to the front of the output, the bytes behind them held.
     pub fn feed(self, piece: &[u8], out: &mut [u8]) -> Fed
-        ensures { λ r. ⌜ (r ≡ feed self (now (piece .entry)) (length (now (out .entry))))
-            × (now (out .exit) ≡ feedOut self (now (piece .entry)) (now (out .entry))) ⌝ }
+        ensures { λ r. ⌜ Feeds self (now (piece .entry)) (now (out .entry)) r (now (out .exit)) ⌝ }
     {
         let mut next = self;
-        let bad = cipher::bad_with(
+        let bad = cipher::is_bad(
             &next.schedule.round_keys,
             next.schedule.cipher,
             next.schedule.key_length,
         );
         let no = state::piece_refusal(bad, next, piece.len(), out.len());
         if no != refusals::DONE {
-            return not_fed(no, next);
+            return fed_as(no, 0, next);
         }
         let kept = (next.count % 16) as usize;
         let n = (kept + piece.len()) / 16;
@@ -118,48 +114,23 @@ impl Stream {
             next.chain = last;
         }
         let old = next.held;
-        let held = blocks::left_over(old, kept, piece, n);
+        let held = held::left_over(old, kept, piece, n);
         next.held = held;
         next.count += piece.len() as u64;
-        Fed {
-            answer: refusals::DONE,
-            written: (16 * n) as u64,
-            next,
-        }
+        fed_as(refusals::DONE, (16 * n) as u64, next)
     }
 
     // The end of the message: closed, where no byte is held.
     pub fn finish(self) -> Finished
-        ensures { λ r. ⌜ r ≡ finish self ⌝ }
+        ensures { λ r. ⌜ Finishes self r ⌝ }
     {
-        let bad = cipher::bad_with(
-            &self.schedule.round_keys,
-            self.schedule.cipher,
-            self.schedule.key_length,
-        );
-        if state::bad_state(bad, self) {
-            return Finished {
-                answer: refusals::BAD_STATE,
-                next: self,
-            };
-        }
-        if self.closed {
-            return Finished {
-                answer: refusals::CLOSED,
-                next: self,
-            };
-        }
-        if self.count % 16 != 0 {
-            return Finished {
-                answer: refusals::BYTES_HELD,
-                next: self,
-            };
-        }
+        let schedule = self.schedule;
+        let bad = cipher::bad_schedule(schedule);
+        let answer = state::finish_refusal(bad, self);
         let mut next = self;
-        next.closed = true;
-        Finished {
-            answer: refusals::DONE,
-            next,
+        if answer == refusals::DONE {
+            next.closed = true;
         }
+        Finished { answer, next }
     }
 }

@@ -56,10 +56,10 @@ pub fn store(out: &mut [u8], at: usize, block: [u8; 16])
     requires { ⌜ at + 16 ≤ length (now out) ⌝ }
     ensures { λ r. ⌜ now (out .exit) ≡ take at (now (out .entry)) ++ block ++ drop (at + 16) (now (out .entry)) ⌝ }
 {
-    let mut i = 0;
-    while i < 16 {
-        out[at + i] = block[i];
-        i += 1;
+    let mut j = 0;
+    while j < 16 {
+        out[at + j] = block[j];
+        j += 1;
     }
 }
 

@@ -2,7 +2,7 @@ use mathlib.Core.Path.{_≡_, subst}
 use Prim.Native.Nat.{ℕ, _-_, _≤_}
 use native.Mathlib.Omega.{arith}
 use borrow.Author.Needs.{needs}
-use Rattle.hierocrypt3_keys.specs.Placed.{Placed}
+use Rattle.hierocrypt3_keys.specs.code.Placed.{Placed}
 use Rattle.hierocrypt3_keys.proofs.Laid.{placed-start, placed-step}
 use Rattle.hierocrypt3_keys.proofs.put.Statement.{statement}
 use Rattle.hierocrypt3_keys.proofs.put.Tie as tie
@@ -15,21 +15,6 @@ abbrev μ-loop : tie.MeasureT-loop
 
 loop-holds : tie.Need-loop-holds Inv-loop μ-loop
 loop-holds c = (search needs, placed-start (c .args .at) (c .args .t3) (c .args .keys))
-
-add-j : tie.Need-add-j Inv-loop μ-loop
-add-j c = search needs
-
-array-read-r : tie.Need-array-read-r Inv-loop μ-loop
-array-read-r c = search needs
-
-array-write-r : tie.Need-array-write-r Inv-loop μ-loop
-array-write-r c = search needs
-
-add-i : tie.Need-add-i Inv-loop μ-loop
-add-i c = search needs
-
-loop-less : tie.Need-loop-less Inv-loop μ-loop
-loop-less c = search needs
 
 loop-again : tie.Need-loop-again Inv-loop μ-loop
 loop-again c = (search needs, placed-step (c .before .loop .inv .1) (search needs))
@@ -47,10 +32,10 @@ put-spec =
     Inv-loop
     μ-loop
     loop-holds
-    add-j
-    array-read-r
-    array-write-r
-    add-i
-    loop-less
+    (λ c. search needs)
+    (λ c. search needs)
+    (λ c. search needs)
+    (λ c. search needs)
+    (λ c. search needs)
     loop-again
     returns)

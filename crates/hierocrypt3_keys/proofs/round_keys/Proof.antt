@@ -3,8 +3,9 @@ use Prim.Native.Nat.{ℕ, _+_, _-_, _≤_, _/_}
 use native.Mathlib.Omega.{arith}
 use lib.ListN.{length}
 use borrow.Author.Needs.{needs}
-use Rattle.hierocrypt3_tables.specs.Tables.{sTable}
-use Rattle.hierocrypt3_keys.specs.Keys.{G0, σ0, Z}
+use Rattle.hierocrypt3_tables.specs.code.Tables.{sTable}
+use Rattle.hierocrypt3_tables.specs.Constants.{G0}
+use Rattle.hierocrypt3_keys.specs.Keys.{σ0, Z}
 use Rattle.hierocrypt3_keys.proofs.Laid.{Laid, laid-start, laid-step, laid-end, Z-step, K-step}
 use Rattle.hierocrypt3_keys.proofs.round_keys.Statement.{statement}
 use Rattle.hierocrypt3_keys.proofs.round_keys.Tie as tie
@@ -15,70 +16,44 @@ Inv-loop key sbox length last z₀ keys₀ t₀ z keys t = (t ≤ last) × (sbox
 abbrev μ-loop : tie.MeasureT-loop
 μ-loop key sbox length last z₀ keys₀ t₀ z keys t = last - t
 
-sbox-requires : tie.Need-sbox-requires Inv-loop μ-loop
-sbox-requires c κs = search needs
-
-add-last : tie.Need-add-last Inv-loop μ-loop
-add-last c = search needs
-
-array-copy-out-g : tie.Need-array-copy-out-g Inv-loop μ-loop
-array-copy-out-g c = search needs
-
-padding-requires : tie.Need-padding-requires Inv-loop μ-loop
-padding-requires c κs = search needs
-
-pre-whitening-requires : tie.Need-pre-whitening-requires Inv-loop μ-loop
-pre-whitening-requires c κs = search needs
-
 loop-holds : tie.Need-loop-holds Inv-loop μ-loop
 unfolding Z
-loop-holds c = (
-  search needs,
-  c .before .before .before .before .sbox .ensures,
-  c .pre-whitening .ensures ∙ ap (σ0 (G0 5)) (c .before .padding .ensures),
-  laid-start
-      (c .before .before .before .before .before .before .args .key .now),
-  search needs,
-)
-
-next-requires : tie.Need-next-requires Inv-loop μ-loop
-next-requires c κs = search needs
-
-mul-put-key : tie.Need-mul-put-key Inv-loop μ-loop
-mul-put-key c = search needs
-
-round-key-requires : tie.Need-round-key-requires Inv-loop μ-loop
-round-key-requires c κs = search needs
+loop-holds c =
+    let table = c .before .before .before .before in (
+      search needs,
+      table .sbox .ensures,
+      c .pre-whitening .ensures ∙ ap (σ0 (G0 5)) (c .before .padding .ensures),
+      laid-start (table .before .before .args .key .now),
+      search needs,
+    )
 
 put-key-requires : tie.Need-put-key-requires Inv-loop μ-loop
-put-key-requires c κs = omega (arith, c .before .before .before .before .loop-test .taken, c .before .before .before .before .before .loop .inv .4)
+put-key-requires c κs =
+    let test = c .before .before .before .before in
+    omega (arith, test .loop-test .taken, test .before .loop .inv .4)
 
 add-t : tie.Need-add-t Inv-loop μ-loop
-add-t c = omega (arith, c .before .before .before .before .before .loop-test .taken, c .before .before .before .before .before .before .loop .inv .4)
-
-loop-less : tie.Need-loop-less Inv-loop μ-loop
-loop-less c = search needs
+add-t c =
+    let test = c .before .before .before .before .before in
+    omega (arith, test .loop-test .taken, test .before .loop .inv .4)
 
 loop-again : tie.Need-loop-again Inv-loop μ-loop
 loop-again c =
-    let args = c .before .before .before .before .before .before .before .before .before .before .before .before .before .args in
-    let z = Z-step (args .key .now) (c .before .before .before .before .before .before .loop .t) (c .before .before .before .before .before .before .loop .z)
-    (c .before .before .before .next .result) (c .before .before .before .next .ensures) (c .before .before .before .before .before .before .loop .inv .2) in (
-      omega (arith, c .before .before .before .before .before .loop-test .taken),
-      c .before .before .before .before .before .before .loop .inv .1,
-      z,
-      laid-step _
-          (c .before .before .before .before .before .before .loop .inv .3) (c .put-key .ensures)
-          (K-step (args .key .now) (c .before .before .before .before .before .before .loop .t) (c .before .before .before .before .before .before .loop .z)
-          (c .before .before .before .next .result) _ (c .before .round-key .ensures) (c .before .before .before .before .before .before .loop .inv .2) z),
-      c .before .before .before .before .before .before .loop .inv .4,
-    )
+    let stepped = c .before .before .before in
+    let test = stepped .before .before in
+    let head = test .before in
+    let loop = head .loop in
+    let key = head .before .before .before .before .before .before .before .args .key .now in
+    let z = Z-step key (loop .t) (loop .z) (stepped .next .result) (stepped .next .ensures) (loop .inv .2) in
+    let k = K-step key (loop .t) (loop .z) (stepped .next .result) _ (c .before .round-key .ensures) (loop .inv .2) z in
+    (omega (arith, test .loop-test .taken), loop .inv .1, z, laid-step _ (loop .inv .3) (c .put-key .ensures) k, loop .inv .4)
 
 returns : tie.Need-returns Inv-loop μ-loop
 returns c =
-    let args = c .before .before .before .before .before .before .before .before .args in
-    let e : c .before .loop .t ≡ length (args .key .now) / 8 + 4 + 1 = omega arith in
-    laid-end (args .key .now) (c .before .loop .keys) (subst (λ (n : ℕ). Laid (args .key .now) n (c .before .loop .keys)) e (c .before .loop .inv .3))
+    let loop = c .before .loop in
+    let key = c .before .before .before .before .before .before .before .before .args .key .now in
+    let e : loop .t ≡ length key / 8 + 4 + 1 = omega arith in
+    laid-end key (loop .keys) (subst (λ (n : ℕ). Laid key n (loop .keys)) e (loop .inv .3))
 
 pub round-keys-spec : {M : Type 1} → statement M
 round-keys-spec =
@@ -86,17 +61,20 @@ round-keys-spec =
     (tie.spec
     Inv-loop
     μ-loop
-    sbox-requires
-    add-last
-    array-copy-out-g
-    padding-requires
-    pre-whitening-requires
+    (λ c κs. search needs)
+    (λ c. search needs)
+    (λ c. search needs)
+    (λ c. search needs)
+    (λ c κs. search needs)
+    (λ c κs. search needs)
     loop-holds
-    next-requires
-    mul-put-key
-    round-key-requires
+    (λ c. search needs)
+    (λ c κs. search needs)
+    (λ c. search needs)
+    (λ c. search needs)
+    (λ c κs. search needs)
     put-key-requires
     add-t
-    loop-less
+    (λ c. search needs)
     loop-again
     returns)

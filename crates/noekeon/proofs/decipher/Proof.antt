@@ -1,4 +1,7 @@
-use Rattle.noekeon.specs.Noekeon.{decipher}
+-- `decipher`: the cipher under θ(0, K).
+use mathlib.Core.Path.{ap, _∙_}
+use Rattle.noekeon.specs.Noekeon.{S, cipher, load, store, decipher}
+use Rattle.noekeon.specs.declared.Quad.{Quad}
 use borrow.Author.Needs.{needs}
 use Rattle.noekeon.proofs.decipher.Statement.{statement}
 use Rattle.noekeon.proofs.decipher.Tie as tie
@@ -11,7 +14,9 @@ block-with-requires c κs = search needs
 
 returns : tie.Need-returns
 unfolding decipher
-returns c = cc
+returns c =
+    let block = load (c .before .before .args .block) in
+    c .block-with .ensures ∙ ap (λ (k : Quad). store (cipher S k block)) (c .before .decipher-key .ensures)
 
 pub decipher-spec : {M : Type 1} → statement M
 decipher-spec = tie.close (tie.spec decipher-key-requires block-with-requires returns)

@@ -1,21 +1,29 @@
+-- `round_keys`. The loop's invariant: the first i bytes of the key, and zeros.
+use mathlib.Core.List.{_++_}
+use mathlib.Core.Path.{_≡_, refl, _∙_}
 use Prim.Native.Nat.{_≤_, _-_}
+use lib.ListN.{take, replicate}
+use denote.Ref.{now}
 use borrow.Author.Needs.{needs}
-use lib.ListN.{getD}
-use Rattle.laws.proofs.Places.{Filled, fills, fill-end}
+use Rattle.words.proofs.Fill.{fill-next}
+use Rattle.noekeon.proofs.Padded.{padded}
 use Rattle.noekeon.proofs.round_keys.Statement.{statement}
 use Rattle.noekeon.proofs.round_keys.Tie as tie
 
 abbrev Inv-loop : tie.InvT-loop
-Inv-loop key r₀ i₀ r i = (i ≤ 288) × Filled 288 (λ n. getD key n 0) 0 i r
+Inv-loop key r₀ n i₀ r i = (i ≤ n) × (r ≡ take i key ++ replicate (288 - i) 0)
 
 abbrev μ-loop : tie.MeasureT-loop
-μ-loop key r₀ i₀ r i = 288 - i
+μ-loop key r₀ n i₀ r i = n - i
+
+taken-requires : tie.Need-taken-requires Inv-loop μ-loop
+taken-requires c κs = search needs
 
 loop-holds : tie.Need-loop-holds Inv-loop μ-loop
-loop-holds c = search (needs, fills)
+loop-holds c = (search needs, refl)
 
-byte-at-requires : tie.Need-byte-at-requires Inv-loop μ-loop
-byte-at-requires c κs = search needs
+shared-slice-read-r : tie.Need-shared-slice-read-r Inv-loop μ-loop
+shared-slice-read-r c = search needs
 
 array-write-r : tie.Need-array-write-r Inv-loop μ-loop
 array-write-r c = search needs
@@ -27,10 +35,18 @@ loop-less : tie.Need-loop-less Inv-loop μ-loop
 loop-less c = search needs
 
 loop-again : tie.Need-loop-again Inv-loop μ-loop
-loop-again c = search (needs, fills)
+loop-again c =
+    let loop = c .before .before .loop in
+    let key = now (c .before .before .before .before .before .args .key) in
+    (search needs, rw (loop .inv .1) (fill-next 288 key (loop .i) _ (search needs) (search needs) refl))
 
 returns : tie.Need-returns Inv-loop μ-loop
-returns c = fill-end (c .before .loop .inv .1) (search needs)
+returns c =
+    let loop = c .before .loop in
+    let taken = c .before .before .taken in
+    let key = now (c .before .before .before .before .args .key) in
+    let e : loop .i ≡ taken .result = search needs in
+    loop .inv .1 ∙ rw e (padded 288 key (taken .result) (search needs) (search needs) (taken .ensures .2))
 
 pub round-keys-spec : {M : Type 1} → statement M
 round-keys-spec =
@@ -38,8 +54,9 @@ round-keys-spec =
     (tie.spec
     Inv-loop
     μ-loop
+    taken-requires
     loop-holds
-    byte-at-requires
+    shared-slice-read-r
     array-write-r
     add-i
     loop-less

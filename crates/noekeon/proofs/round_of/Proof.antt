@@ -1,4 +1,6 @@
-use Rattle.noekeon.specs.Noekeon.{round}
+-- `round_of`: the four steps one after the other.
+use mathlib.Core.Path.{ap, _∙_}
+use Rattle.noekeon.specs.Noekeon.{γ, π1, π2, round}
 use borrow.Author.Needs.{needs}
 use Rattle.noekeon.proofs.round_of.Statement.{statement}
 use Rattle.noekeon.proofs.round_of.Tie as tie
@@ -17,7 +19,7 @@ pi2-requires c κs = search needs
 
 returns : tie.Need-returns
 unfolding round
-returns c = cc
+returns c = c .pi2 .ensures ∙ ap π2 (c .before .gamma .ensures ∙ ap γ (c .before .before .pi1 .ensures ∙ ap π1 (c .before .before .before .theta .ensures)))
 
 pub round-of-spec : {M : Type 1} → statement M
 round-of-spec =

@@ -1,3 +1,4 @@
+-- `theta`: what the two calls of S give, put into the rest.
 use mathlib.Core.Path.{ap, _∙_}
 use Prim.Native.Nat.{ℕ}
 use lib.Bits.{bitXor}

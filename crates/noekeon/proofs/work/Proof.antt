@@ -1,3 +1,4 @@
+-- `work`. The loop's invariant: after i turns, i rounds.
 use mathlib.Core.Path.{ap, _∙_}
 use Prim.Native.Nat.{_≤_, _-_}
 use borrow.Author.Needs.{needs}

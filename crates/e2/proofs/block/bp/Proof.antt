@@ -1,100 +1,37 @@
 -- `block::bp`: each byte comes from the place that BP says.
-use mathlib.Core.List.{[], _∷_}
-use borrow.Author.Needs.{needs}
+use mathlib.Core.List.{_++_}
+use mathlib.Core.Path.{ap₂}
 use Rattle.e2_steps.specs.Steps.{BP}
+use Rattle.words.proofs.OfWord.{bytes-of}
+use borrow.Author.Needs.{needs}
 use Rattle.e2.proofs.block.bp.Statement.{statement}
 use Rattle.e2.proofs.block.bp.Tie as tie
 
-byte0-requires : tie.Need-byte0-requires
-byte0-requires c κs = search needs
+diagonal-requires : tie.Need-diagonal-requires
+diagonal-requires c κs = search needs
 
-byte1-requires : tie.Need-byte1-requires
-byte1-requires c κs = search needs
+diagonal-requires-2 : tie.Need-diagonal-requires-2
+diagonal-requires-2 c κs = search needs
 
-byte2-requires : tie.Need-byte2-requires
-byte2-requires c κs = search needs
+diagonal-requires-3 : tie.Need-diagonal-requires-3
+diagonal-requires-3 c κs = search needs
 
-byte3-requires : tie.Need-byte3-requires
-byte3-requires c κs = search needs
-
-byte0-requires-2 : tie.Need-byte0-requires-2
-byte0-requires-2 c κs = search needs
-
-byte1-requires-2 : tie.Need-byte1-requires-2
-byte1-requires-2 c κs = search needs
-
-byte2-requires-2 : tie.Need-byte2-requires-2
-byte2-requires-2 c κs = search needs
-
-byte3-requires-2 : tie.Need-byte3-requires-2
-byte3-requires-2 c κs = search needs
-
-byte0-requires-3 : tie.Need-byte0-requires-3
-byte0-requires-3 c κs = search needs
-
-byte1-requires-3 : tie.Need-byte1-requires-3
-byte1-requires-3 c κs = search needs
-
-byte2-requires-3 : tie.Need-byte2-requires-3
-byte2-requires-3 c κs = search needs
-
-byte3-requires-3 : tie.Need-byte3-requires-3
-byte3-requires-3 c κs = search needs
-
-byte0-requires-4 : tie.Need-byte0-requires-4
-byte0-requires-4 c κs = search needs
-
-byte1-requires-4 : tie.Need-byte1-requires-4
-byte1-requires-4 c κs = search needs
-
-byte2-requires-4 : tie.Need-byte2-requires-4
-byte2-requires-4 c κs = search needs
-
-byte3-requires-4 : tie.Need-byte3-requires-4
-byte3-requires-4 c κs = search needs
+diagonal-requires-4 : tie.Need-diagonal-requires-4
+diagonal-requires-4 c κs = search needs
 
 returns : tie.Need-returns
 unfolding BP
-returns c = λ i.
-    record {
-      l = c .before .before .before .before .before .before .before .before .before .before .before .before .before .before .before .byte0 .ensures i
-          ∷ c .before .before .before .before .before .before .before .before .before .before .before .before .before .before .byte1 .ensures i
-          ∷ c .before .before .before .before .before .before .before .before .before .before .before .before .before .byte2 .ensures i
-          ∷ c .before .before .before .before .before .before .before .before .before .before .before .before .byte3 .ensures i
-          ∷ c .before .before .before .before .before .before .before .before .before .before .before .byte02 .ensures i
-          ∷ c .before .before .before .before .before .before .before .before .before .before .byte12 .ensures i
-          ∷ c .before .before .before .before .before .before .before .before .before .byte22 .ensures i
-          ∷ c .before .before .before .before .before .before .before .before .byte32 .ensures i
-          ∷ [];
-      r = c .before .before .before .before .before .before .before .byte03 .ensures i
-          ∷ c .before .before .before .before .before .before .byte13 .ensures i
-          ∷ c .before .before .before .before .before .byte23 .ensures i
-          ∷ c .before .before .before .before .byte33 .ensures i
-          ∷ c .before .before .before .byte04 .ensures i
-          ∷ c .before .before .byte14 .ensures i
-          ∷ c .before .byte24 .ensures i
-          ∷ c .byte34 .ensures i
-          ∷ [];
-    }
+returns c =
+    let l = c .before .before in
+    ap₂ _++_ (ap₂ _++_ (bytes-of (l .before .diagonal .ensures)) (bytes-of (l .diagonal2 .ensures)))
+    (ap₂ _++_ (bytes-of (c .before .diagonal3 .ensures)) (bytes-of (c .diagonal4 .ensures)))
 
 pub bp-spec : {M : Type 1} → statement M
 bp-spec =
     tie.close
     (tie.spec
-    byte0-requires
-    byte1-requires
-    byte2-requires
-    byte3-requires
-    byte0-requires-2
-    byte1-requires-2
-    byte2-requires-2
-    byte3-requires-2
-    byte0-requires-3
-    byte1-requires-3
-    byte2-requires-3
-    byte3-requires-3
-    byte0-requires-4
-    byte1-requires-4
-    byte2-requires-4
-    byte3-requires-4
+    diagonal-requires
+    diagonal-requires-2
+    diagonal-requires-3
+    diagonal-requires-4
     returns)

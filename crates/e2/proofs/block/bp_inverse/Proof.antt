@@ -1,97 +1,37 @@
--- `block::bp_inverse`: the words of BP⁻ of the two halves.
-use mathlib.Core.List.{[], _∷_}
-use mathlib.Core.Path.{sym, _∙_}
+-- `block::bp_inverse`: each byte comes from the place that BP⁻ says.
+use mathlib.Core.List.{_++_}
+use mathlib.Core.Path.{ap₂}
+use Rattle.e2_steps.specs.Steps.{BP⁻}
+use Rattle.words.proofs.OfWord.{bytes-of}
 use borrow.Author.Needs.{needs}
-use Rattle.e2.proofs.OfWords.{halves-back}
 use Rattle.e2.proofs.block.bp_inverse.Statement.{statement}
 use Rattle.e2.proofs.block.bp_inverse.Tie as tie
 
-array-read-word : tie.Need-array-read-word
-array-read-word c = search needs
+diagonal-requires : tie.Need-diagonal-requires
+diagonal-requires c κs = search needs
 
-array-read-word-2 : tie.Need-array-read-word-2
-array-read-word-2 c = search needs
+diagonal-requires-2 : tie.Need-diagonal-requires-2
+diagonal-requires-2 c κs = search needs
 
-array-read-word-3 : tie.Need-array-read-word-3
-array-read-word-3 c = search needs
+diagonal-requires-3 : tie.Need-diagonal-requires-3
+diagonal-requires-3 c κs = search needs
 
-array-read-word-4 : tie.Need-array-read-word-4
-array-read-word-4 c = search needs
-
-word-requires : tie.Need-word-requires
-word-requires c κs = search needs
-
-array-read-word-5 : tie.Need-array-read-word-5
-array-read-word-5 c = search needs
-
-array-read-word-6 : tie.Need-array-read-word-6
-array-read-word-6 c = search needs
-
-array-read-word-7 : tie.Need-array-read-word-7
-array-read-word-7 c = search needs
-
-array-read-word-8 : tie.Need-array-read-word-8
-array-read-word-8 c = search needs
-
-word-requires-2 : tie.Need-word-requires-2
-word-requires-2 c κs = search needs
-
-array-read-word-9 : tie.Need-array-read-word-9
-array-read-word-9 c = search needs
-
-array-read-word-10 : tie.Need-array-read-word-10
-array-read-word-10 c = search needs
-
-array-read-word-11 : tie.Need-array-read-word-11
-array-read-word-11 c = search needs
-
-array-read-word-12 : tie.Need-array-read-word-12
-array-read-word-12 c = search needs
-
-word-requires-3 : tie.Need-word-requires-3
-word-requires-3 c κs = search needs
-
-array-read-word-13 : tie.Need-array-read-word-13
-array-read-word-13 c = search needs
-
-array-read-word-14 : tie.Need-array-read-word-14
-array-read-word-14 c = search needs
-
-array-read-word-15 : tie.Need-array-read-word-15
-array-read-word-15 c = search needs
-
-array-read-word-16 : tie.Need-array-read-word-16
-array-read-word-16 c = search needs
-
-word-requires-4 : tie.Need-word-requires-4
-word-requires-4 c κs = search needs
+diagonal-requires-4 : tie.Need-diagonal-requires-4
+diagonal-requires-4 c κs = search needs
 
 returns : tie.Need-returns
-returns c = (λ i. c .before .before .before .word .ensures .is i ∷ c .before .before .word2 .ensures .is i ∷ c .before .word3 .ensures .is i ∷ c .word4 .ensures .is i ∷ [])
-    ∙ sym (halves-back (c .before .before .before .before .before .before .args .x .l) (c .before .before .before .before .before .before .args .x .r) (search needs) (search needs))
+unfolding BP⁻
+returns c =
+    let second = c .before .before in
+    ap₂ _++_ (bytes-of (second .before .diagonal .ensures))
+    (ap₂ _++_ (bytes-of (second .diagonal2 .ensures)) (ap₂ _++_ (bytes-of (c .before .diagonal3 .ensures)) (bytes-of (c .diagonal4 .ensures))))
 
 pub bp-inverse-spec : {M : Type 1} → statement M
 bp-inverse-spec =
     tie.close
     (tie.spec
-    array-read-word
-    array-read-word-2
-    array-read-word-3
-    array-read-word-4
-    word-requires
-    array-read-word-5
-    array-read-word-6
-    array-read-word-7
-    array-read-word-8
-    word-requires-2
-    array-read-word-9
-    array-read-word-10
-    array-read-word-11
-    array-read-word-12
-    word-requires-3
-    array-read-word-13
-    array-read-word-14
-    array-read-word-15
-    array-read-word-16
-    word-requires-4
+    diagonal-requires
+    diagonal-requires-2
+    diagonal-requires-3
+    diagonal-requires-4
     returns)

@@ -1,30 +1,29 @@
--- `block::first`: the words that it works are those of (M ⊕ k13) ⊗ k14.
+-- `block::first`: the steps of (M ⊕ k13) ⊗ k14 and BP.
 use mathlib.Core.List.{List}
 use mathlib.Core.Path.{ap, ap₂, _∙_}
 use Prim.Native.Nat.{ℕ}
 use denote.Ref.{now}
-use borrow.Author.Needs.{needs}
 use Rattle.laws.specs.Bytes.{xorL}
-use Rattle.laws.proofs.Known.{bytes-known}
-use Rattle.e2.specs.Block.{first, roundKey}
-use Rattle.e2_steps.specs.Layout.{wordList}
-use Rattle.e2.specs.Layout.{halves}
 use Rattle.e2_steps.specs.Steps.{times, BP}
-use Rattle.e2.proofs.OfWords.{first-of-words}
+use Rattle.e2.specs.Block.{first, roundKey}
+use borrow.Author.Needs.{needs}
 use Rattle.e2.proofs.block.first.Statement.{statement}
 use Rattle.e2.proofs.block.first.Tie as tie
 
-number-requires : tie.Need-number-requires
-number-requires c κs = search needs
+sequence-requires : tie.Need-sequence-requires
+sequence-requires c κs = search needs
 
 key-requires : tie.Need-key-requires
 key-requires c κs = search needs
 
-number-requires-2 : tie.Need-number-requires-2
-number-requires-2 c κs = search needs
+sequence-requires-2 : tie.Need-sequence-requires-2
+sequence-requires-2 c κs = search needs
 
 key-requires-2 : tie.Need-key-requires-2
 key-requires-2 c κs = search needs
+
+slice-aggregate-load : tie.Need-slice-aggregate-load
+slice-aggregate-load c = search needs
 
 load-requires : tie.Need-load-requires
 load-requires c κs = search needs
@@ -41,29 +40,28 @@ bp-requires c κs = search needs
 returns : tie.Need-returns
 unfolding first
 returns c =
-    let s = c .before .before .before .before .before .before .before .before in
-    let m : List ℕ = s .args .block in
-    let k : ℕ → List ℕ = roundKey (now (s .args .keys)) in
-    let i = c .before .before .before .before .before .before .before .number in
-    let j = c .before .before .before .before .before .number2 in
-    let a = c .before .before .before .before .before .before .key in
-    let b = c .before .before .before .before .key2 in
+    let product = c .before in
+    let sum = product .before in
+    let loaded = sum .before in
+    let k14 = loaded .before .before in
+    let k13 = k14 .before .before in
+    let a = k13 .before .before .args in
+    let k : ℕ → List ℕ = roundKey (now (a .keys)) in
     c .bp .ensures
-    ∙ ap (λ (x : List ℕ). halves (BP x))
-    (first-of-words m (k (i .result)) (k (j .result)) (wordList (a .result)) (wordList (b .result)) (a .ensures .0) (b .ensures .0)
-    (wordList (c .before .before .before .load .result)) (wordList (c .before .before .xor .result)) (wordList (c .before .times .result))
-    (bytes-known 16 m _ (s .good .1 .1 .0)) (a .ensures .1)
-    (c .before .before .before .load .ensures) (c .before .before .xor .ensures) (c .before .times .ensures))
-    ∙ ap₂ (λ (x y : ℕ). halves (BP (times (xorL 16 m (k x)) (k y)))) (i .ensures .0) (j .ensures .0)
+    ∙ ap BP (product .times .ensures
+    ∙ ap₂ times
+    (sum .xor .ensures ∙ ap₂ (xorL 16) (loaded .load .ensures) (k13 .key .ensures ∙ ap k (k13 .before .sequence .ensures .0)))
+    (k14 .key2 .ensures ∙ ap k (k14 .before .sequence2 .ensures .0)))
 
 pub first-spec : {M : Type 1} → statement M
 first-spec =
     tie.close
     (tie.spec
-    number-requires
+    sequence-requires
     key-requires
-    number-requires-2
+    sequence-requires-2
     key-requires-2
+    slice-aggregate-load
     load-requires
     xor-requires
     times-requires

@@ -9,16 +9,16 @@ use borrow.Author.Needs.{needs}
 use Rattle.laws.specs.Bytes.{xorL}
 use Rattle.laws.specs.Rounds.{swapped, half}
 use Rattle.laws.proofs.Rounds.{Stepped, steps-start, steps-step, steps-end, run-tab}
-use Rattle.e2.specs.Block.{number, roundKey}
-use Rattle.e2.specs.Block.{F}
+use Rattle.e2_steps.specs.code.Layout.{pairBytes}
+use Rattle.e2.specs.Block.{F, sequence, roundKey}
 use Rattle.e2.proofs.block.rounds.Statement.{statement}
 use Rattle.e2.proofs.block.rounds.Tie as tie
 
 abbrev roundOf : List ℕ → Bool → ℕ → List ℕ × List ℕ → List ℕ × List ℕ
-roundOf keys back i q = (q .1, xorL 8 (q .0) (F (q .1) (roundKey keys (number back (suc i)))))
+roundOf keys back i q = (q .1, xorL 8 (q .0) (F (q .1) (roundKey keys (sequence back (suc i)))))
 
 abbrev Inv-loop : tie.InvT-loop
-Inv-loop table keys back l₀ r₀ i₀ l r i = (i ≤ 12) × Stepped (roundOf keys back) (l₀, r₀) i (l, r)
+Inv-loop table keys back l₀ r₀ i₀ l r i = (i ≤ 12) × Stepped (roundOf keys back) (pairBytes l₀, pairBytes r₀) i (pairBytes l, pairBytes r)
 
 abbrev μ-loop : tie.MeasureT-loop
 μ-loop table keys back l₀ r₀ i₀ l r i = 12 - i
@@ -26,17 +26,17 @@ abbrev μ-loop : tie.MeasureT-loop
 loop-holds : tie.Need-loop-holds Inv-loop μ-loop
 loop-holds c = (search needs, steps-start _ _)
 
-add-number : tie.Need-add-number Inv-loop μ-loop
-add-number c = search needs
+add-sequence : tie.Need-add-sequence Inv-loop μ-loop
+add-sequence c = search needs
 
-number-requires : tie.Need-number-requires Inv-loop μ-loop
-number-requires c κs = search needs
+sequence-requires : tie.Need-sequence-requires Inv-loop μ-loop
+sequence-requires c κs = search needs
 
 f-requires : tie.Need-f-requires Inv-loop μ-loop
 f-requires c κs = search needs
 
-add-requires : tie.Need-add-requires Inv-loop μ-loop
-add-requires c κs = search needs
+xor-requires : tie.Need-xor-requires Inv-loop μ-loop
+xor-requires c κs = search needs
 
 add-i : tie.Need-add-i Inv-loop μ-loop
 add-i c = search needs
@@ -46,25 +46,20 @@ loop-less c = search needs
 
 loop-again : tie.Need-loop-again Inv-loop μ-loop
 loop-again c =
-    let a = c .before .before .before .before .before .before .before .args in
-    let q = c .before .before .before .before .loop in (
-      search needs,
-      steps-step (q .inv .1)
-          (λ t. (
-            q .r,
-            (c .add .ensures
-                ∙ ap (xorL 8 (q .l))
-                (c .before .f .ensures
-                ∙ ap (λ (k : ℕ). F (q .r) (roundKey (now (a .keys)) k)) (c .before .before .number .ensures .0 ∙ ap (number (a .back)) (add-one (q .i))))) t,
-          )),
-    )
+    let loop = c .before .before .before .before in
+    let a = loop .before .before .before .before .args in
+    let q = loop .loop in
+    let key = c .before .before .sequence .ensures .0 ∙ ap (sequence (a .back)) (add-one (q .i)) in
+    let worked = c .before .f .ensures ∙ ap (λ (k : ℕ). F (pairBytes (q .r)) (roundKey (now (a .keys)) k)) key in
+    (search needs, steps-step (q .inv .1) (λ t. (pairBytes (q .r), (c .xor .ensures ∙ ap (xorL 8 (pairBytes (q .l))) worked) t)))
 
 returns : tie.Need-returns Inv-loop μ-loop
 returns c =
-    let a = c .before .before .before .before .args in
+    let a = c .before .before .before .before .before .args in
+    let keys : ℕ → List ℕ = λ i. roundKey (now (a .keys)) (sequence (a .back) (suc i)) in
     ap (swapped F (xorL 8))
     (steps-end 12 (c .before .loop .inv .1) (search needs) (search needs)
-    ∙ sym (run-tab (λ k q. swapped F (xorL 8) (half F (xorL 8) k q)) 12 (λ i. roundKey (now (a .keys)) (number (a .back) (suc i))) (a .m .l, a .m .r)))
+    ∙ sym (run-tab (λ k q. swapped F (xorL 8) (half F (xorL 8) k q)) 12 keys (pairBytes (a .m .l), pairBytes (a .m .r))))
 
 pub rounds-spec : {M : Type 1} → statement M
 rounds-spec =
@@ -73,10 +68,10 @@ rounds-spec =
     Inv-loop
     μ-loop
     loop-holds
-    add-number
-    number-requires
+    add-sequence
+    sequence-requires
     f-requires
-    add-requires
+    xor-requires
     add-i
     loop-less
     loop-again

@@ -1,18 +1,22 @@
--- `substitution::s_byte`: what the lent table holds at x is s x.
+-- `substitution::s_byte`: the lent table has 256 places, and what it holds at x is s x.
 use mathlib.Core.List.{List}
-use mathlib.Core.Path.{ap, _∙_}
-use Prim.Native.Nat.{ℕ}
-use lib.ListN.{getD}
+use mathlib.Core.Path.{_≡_, ap, _∙_}
+use Prim.Native.Nat.{ℕ, _<_}
+use native.Mathlib.Omega.{arith}
+use lib.ListN.{length, getD}
 use borrow.Author.Needs.{needs}
-use Rattle.e2_steps.proofs.TableRule.{sTable-at}
+use Rattle.e2_steps.proofs.TableRule.{length-sTable, sTable-at}
 use Rattle.e2_steps.proofs.substitution.s_byte.Statement.{statement}
 use Rattle.e2_steps.proofs.substitution.s_byte.Tie as tie
 
-element-copy-out-result : tie.Need-element-copy-out-result
-element-copy-out-result c = search needs
+shared-slice-read-result : tie.Need-shared-slice-read-result
+shared-slice-read-result c =
+    let e : length (c .before .args .table .now) ≡ 256 = ap length (c .before .pre) ∙ length-sTable in
+    let h : c .before .args .x < 256 = search needs in
+    omega arith
 
 returns : tie.Need-returns
 returns c = ap (λ (l : List ℕ). getD l (c .before .args .x) 0) (c .before .pre) ∙ sTable-at (c .before .args .x) (search needs)
 
 pub s-byte-spec : {M : Type 1} → statement M
-s-byte-spec = tie.close (tie.spec element-copy-out-result returns)
+s-byte-spec = tie.close (tie.spec shared-slice-read-result returns)

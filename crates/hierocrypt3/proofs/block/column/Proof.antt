@@ -3,27 +3,6 @@ use borrow.Author.Needs.{needs}
 use Rattle.hierocrypt3.proofs.block.column.Statement.{statement}
 use Rattle.hierocrypt3.proofs.block.column.Tie as tie
 
-array-read-t6 : tie.Need-array-read-t6
-array-read-t6 c = search needs
-
-add-t7 : tie.Need-add-t7
-add-t7 c = search needs
-
-array-read-t10 : tie.Need-array-read-t10
-array-read-t10 c = search needs
-
-add-t11 : tie.Need-add-t11
-add-t11 c = search needs
-
-array-read-t14 : tie.Need-array-read-t14
-array-read-t14 c = search needs
-
-add-t15 : tie.Need-add-t15
-add-t15 c = search needs
-
-array-read-t18 : tie.Need-array-read-t18
-array-read-t18 c = search needs
-
 returns : tie.Need-returns
 returns c = simp add-zero
 
@@ -31,11 +10,11 @@ pub column-spec : {M : Type 1} → statement M
 column-spec =
     tie.close
     (tie.spec
-    array-read-t6
-    add-t7
-    array-read-t10
-    add-t11
-    array-read-t14
-    add-t15
-    array-read-t18
+    (λ c. search needs)
+    (λ c. search needs)
+    (λ c. search needs)
+    (λ c. search needs)
+    (λ c. search needs)
+    (λ c. search needs)
+    (λ c. search needs)
     returns)

@@ -1,9 +1,9 @@
 use mathlib.Core.Path.{_∙_}
-use Prim.Native.Nat.{_+_, _-_, _≤_}
+use Prim.Native.Nat.{_+_, _≤_}
 use borrow.Author.Needs.{needs}
 use Rattle.laws.specs.Rounds.{back}
 use Rattle.laws.proofs.Rounds.{Falling, loops, back-step, back-end}
-use Rattle.hierocrypt3.specs.Columns.{roundAt⁻}
+use Rattle.hierocrypt3.specs.code.Columns.{roundAt⁻}
 use Rattle.hierocrypt3.proofs.Numbered.{decryption-end}
 use Rattle.hierocrypt3.proofs.block.decryption.Statement.{statement}
 use Rattle.hierocrypt3.proofs.block.decryption.Tie as tie
@@ -14,33 +14,15 @@ Inv-loop unsbox table keys n x₀ i₀ x i = (i ≤ n + 1) × Falling (roundAt�
 abbrev μ-loop : tie.MeasureT-loop
 μ-loop unsbox table keys n x₀ i₀ x i = i
 
-add-add-key : tie.Need-add-add-key Inv-loop μ-loop
-add-add-key c = search needs
-
-add-key-requires : tie.Need-add-key-requires Inv-loop μ-loop
-add-key-requires c κs = search needs
-
-add-i : tie.Need-add-i Inv-loop μ-loop
-add-i c = search needs
-
 loop-holds : tie.Need-loop-holds Inv-loop μ-loop
 loop-holds c = search (needs, loops)
-
-sub-i : tie.Need-sub-i Inv-loop μ-loop
-sub-i c = search needs
-
-rho-inverse-requires : tie.Need-rho-inverse-requires Inv-loop μ-loop
-rho-inverse-requires c κs = search needs
-
-loop-less : tie.Need-loop-less Inv-loop μ-loop
-loop-less c = search needs
 
 loop-again : tie.Need-loop-again Inv-loop μ-loop
 loop-again c = (search needs, back-step (c .before .before .loop .inv .1) (search needs) (c .rho-inverse .ensures))
 
 returns : tie.Need-returns Inv-loop μ-loop
 returns c =
-    let args = c .before .before .before .args in
+    let args = c .before .before .before .before .before .args in
     back-end (c .before .loop .inv .1) (search needs)
     ∙ decryption-end (args .keys .now) (args .n) (args .block) (c .before .before .add-key .result) (c .before .before .add-key .ensures)
 
@@ -50,12 +32,12 @@ decryption-spec =
     (tie.spec
     Inv-loop
     μ-loop
-    add-add-key
-    add-key-requires
-    add-i
+    (λ c. search needs)
+    (λ c κs. search needs)
+    (λ c. search needs)
     loop-holds
-    sub-i
-    rho-inverse-requires
-    loop-less
+    (λ c. search needs)
+    (λ c κs. search needs)
+    (λ c. search needs)
     loop-again
     returns)

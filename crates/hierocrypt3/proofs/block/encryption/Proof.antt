@@ -2,7 +2,7 @@ use mathlib.Core.Path.{_∙_}
 use Prim.Native.Nat.{_+_, _-_, _≤_}
 use borrow.Author.Needs.{needs}
 use Rattle.laws.proofs.Rounds.{Stepped, loops, steps-step}
-use Rattle.hierocrypt3.specs.Columns.{roundAt}
+use Rattle.hierocrypt3.specs.code.Columns.{roundAt}
 use Rattle.hierocrypt3.proofs.Numbered.{encryption-end}
 use Rattle.hierocrypt3.proofs.block.encryption.Statement.{statement}
 use Rattle.hierocrypt3.proofs.block.encryption.Tie as tie
@@ -16,27 +16,12 @@ abbrev μ-loop : tie.MeasureT-loop
 loop-holds : tie.Need-loop-holds Inv-loop μ-loop
 loop-holds c = search (needs, loops)
 
-rho-requires : tie.Need-rho-requires Inv-loop μ-loop
-rho-requires c κs = search needs
-
-add-i : tie.Need-add-i Inv-loop μ-loop
-add-i c = search needs
-
-loop-less : tie.Need-loop-less Inv-loop μ-loop
-loop-less c = search needs
-
 loop-again : tie.Need-loop-again Inv-loop μ-loop
 loop-again c = (search needs, steps-step (c .before .before .loop .inv .1) (c .rho .ensures))
 
-add-add-key : tie.Need-add-add-key Inv-loop μ-loop
-add-add-key c = search needs
-
-add-key-requires : tie.Need-add-key-requires Inv-loop μ-loop
-add-key-requires c κs = search needs
-
 returns : tie.Need-returns Inv-loop μ-loop
 returns c =
-    let args = c .before .before .before .args in
+    let args = c .before .before .before .before .before .args in
     c .add-key .ensures
     ∙ encryption-end (args .keys .now) (args .n) (c .before .before .loop .i) (args .block) (c .before .before .loop .x) (c .before .before .loop .inv .1)
     (search needs) (search needs)
@@ -48,10 +33,10 @@ encryption-spec =
     Inv-loop
     μ-loop
     loop-holds
-    rho-requires
-    add-i
-    loop-less
+    (λ c κs. search needs)
+    (λ c. search needs)
+    (λ c. search needs)
     loop-again
-    add-add-key
-    add-key-requires
+    (λ c. search needs)
+    (λ c κs. search needs)
     returns)

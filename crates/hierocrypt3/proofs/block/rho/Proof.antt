@@ -1,22 +1,16 @@
 use mathlib.Core.Path.{sym, ap, _∙_}
 use Prim.Native.Nat.{_+_}
 use borrow.Author.Needs.{needs}
-use Rattle.hierocrypt3.specs.Operations.{MDSH}
+use Rattle.hierocrypt3_steps.specs.Operations.{MDSH}
 use Rattle.hierocrypt3.specs.Block.{XS, ρ, roundKey}
 use Rattle.hierocrypt3.proofs.Numbered.{if-more, if-last}
 use Rattle.hierocrypt3.proofs.block.rho.Statement.{statement}
 use Rattle.hierocrypt3.proofs.block.rho.Tie as tie
 
-xs-requires : tie.Need-xs-requires
-xs-requires c κs = search needs
-
-mds-h-requires : tie.Need-mds-h-requires
-mds-h-requires c κs = search needs
-
 returns : tie.Need-returns
 unfolding ρ
 returns c =
-    let args = c .before .before .before .args in
+    let args = c .before .before .before .before .before .args in
     let k = roundKey (args .keys .now) (args .i + 1) in
     c .mds-h .ensures
     ∙ ap MDSH (c .before .before .xs .ensures)
@@ -24,10 +18,10 @@ returns c =
 
 returns-2 : tie.Need-returns-2
 returns-2 c =
-    let args = c .before .before .args in
+    let args = c .before .before .before .before .args in
     let k = roundKey (args .keys .now) (args .i + 1) in
     c .before .xs .ensures
     ∙ sym (if-last (args .i) (args .n) (ρ k (args .x)) (XS k (args .x)) (c .if1 .left))
 
 pub rho-spec : {M : Type 1} → statement M
-rho-spec = tie.close (tie.spec xs-requires mds-h-requires returns returns-2)
+rho-spec = tie.close (tie.spec (λ c κs. search needs) (λ c κs. search needs) returns returns-2)

@@ -1,42 +1,23 @@
-use mathlib.Core.Path.{_∙_}
+use mathlib.Core.Path.{ap, _∙_}
 use mathlib.Core.List.{_++_}
-use lib.Bits.{bitXor}
 use borrow.Author.Needs.{needs}
-use Rattle.hierocrypt3.specs.Operations.{addColumns}
+use Rattle.laws.specs.Bytes.{xorL}
+use Rattle.hierocrypt3_keys.specs.code.Exchanged.{exchanged}
 use Rattle.hierocrypt3_keys.proofs.PFunction.{p16-halves}
 use Rattle.hierocrypt3_keys.proofs.operations.p16.Statement.{statement}
 use Rattle.hierocrypt3_keys.proofs.operations.p16.Tie as tie
 
-half-requires : tie.Need-half-requires
-half-requires c κs = search needs
-
-half-requires-2 : tie.Need-half-requires-2
-half-requires-2 c κs = search needs
-
-xor4-requires : tie.Need-xor4-requires
-xor4-requires c κs = search needs
-
-p16-second-requires : tie.Need-p16-second-requires
-p16-second-requires c κs = search needs
-
-joined-requires : tie.Need-joined-requires
-joined-requires c κs = search needs
-
 returns : tie.Need-returns
 returns c =
-    c .joined .ensures
-    ∙ (λ i. c .before .before .xor4 .ensures i ++ c .before .p16-second .ensures i)
-    ∙ (λ i. addColumns bitXor 0 (c .before .before .before .before .half .ensures i) (c .before .before .before .half2 .ensures i) ++ c .before .p16-second .ensures
-    1)
-    ∙ p16-halves (c .before .before .before .before .before .args .x)
+    let first = c .before .before .before in
+    let halves = first .before in
+    let x34 = halves .before .half .ensures in
+    let y12 = first .xor4 .ensures ∙ (λ i. xorL 4 (halves .half2 .ensures i) (x34 i)) in
+    let y21 = c .before .before .pairs-exchanged .ensures ∙ ap (exchanged 2) y12 in
+    let y34 = c .before .xor42 .ensures ∙ (λ i. xorL 4 (y21 i) (x34 i)) in
+    c .joined .ensures ∙ (λ i. y12 i ++ y34 i) ∙ p16-halves (halves .before .before .args .x)
 
 pub p16-spec : {M : Type 1} → statement M
 p16-spec =
     tie.close
-    (tie.spec
-    half-requires
-    half-requires-2
-    xor4-requires
-    p16-second-requires
-    joined-requires
-    returns)
+    (tie.spec (λ c κs. search needs) (λ c κs. search needs) (λ c κs. search needs) (λ c κs. search needs) (λ c κs. search needs) (λ c κs. search needs) returns)

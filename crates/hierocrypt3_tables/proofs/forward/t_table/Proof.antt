@@ -3,7 +3,7 @@ use lib.ListN.{getD}
 use Rattle.laws.specs.Field.{product}
 use Rattle.laws.proofs.Table.{tab-computed}
 use Rattle.hierocrypt3_tables.specs.Operations.{rowsL}
-use Rattle.hierocrypt3_tables.specs.Tables.{firstColumn, t, tTable}
+use Rattle.hierocrypt3_tables.specs.code.Tables.{firstColumn, t, tTable}
 use Rattle.hierocrypt3_tables.proofs.Sbox.{entries, s-entry}
 use Rattle.hierocrypt3_tables.proofs.forward.t_table.Statement.{statement}
 use Rattle.hierocrypt3_tables.proofs.forward.t_table.Tie as tie

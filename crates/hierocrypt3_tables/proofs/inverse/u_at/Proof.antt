@@ -1,20 +1,17 @@
-use mathlib.Core.Path.{ap, _∙_}
-use mathlib.Core.List.{List}
-use Prim.Native.Nat.{ℕ}
-use lib.ListN.{getD}
 use borrow.Author.Needs.{needs}
-use Rattle.hierocrypt3_tables.proofs.Entries.{u-entry}
+use Rattle.hierocrypt3_tables.specs.code.Tables.{u}
+use Rattle.hierocrypt3_tables.specs.code.Tables.{uTable}
+use Rattle.hierocrypt3_tables.proofs.Entries.{place, entry}
 use Rattle.hierocrypt3_tables.proofs.inverse.u_at.Statement.{statement}
 use Rattle.hierocrypt3_tables.proofs.inverse.u_at.Tie as tie
 
-mul-result : tie.Need-mul-result
-mul-result c = search needs
-
-element-copy-out-result : tie.Need-element-copy-out-result
-element-copy-out-result c = search needs
+shared-slice-read-result : tie.Need-shared-slice-read-result
+unfolding uTable
+shared-slice-read-result c = place u _ (c .before .pre) _ (search needs)
 
 returns : tie.Need-returns
-returns c = ap (λ (l : List ℕ). getD l (c .before .args .x) 0) (c .before .pre) ∙ u-entry (c .before .args .x) (search needs)
+unfolding uTable
+returns c = entry u _ (c .before .pre) _ (search needs)
 
 pub u-at-spec : {M : Type 1} → statement M
-u-at-spec = tie.close (tie.spec mul-result element-copy-out-result returns)
+u-at-spec = tie.close (tie.spec (λ c. search needs) shared-slice-read-result returns)

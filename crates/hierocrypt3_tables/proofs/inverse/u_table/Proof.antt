@@ -1,7 +1,7 @@
 use mathlib.Core.Path.{refl}
 use Rattle.laws.specs.Field.{product}
 use Rattle.laws.proofs.Table.{tab-computed}
-use Rattle.hierocrypt3_tables.specs.Tables.{u, uTable}
+use Rattle.hierocrypt3_tables.specs.code.Tables.{u, uTable}
 use Rattle.hierocrypt3_tables.proofs.inverse.u_table.Statement.{statement}
 use Rattle.hierocrypt3_tables.proofs.inverse.u_table.Tie as tie
 

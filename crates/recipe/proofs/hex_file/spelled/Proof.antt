@@ -1,56 +1,100 @@
-use mathlib.Core.Path.{sym, subst}
-use native.Mathlib.Omega.{arith}
-use lib.Dec.{T}
+use Rattle.hex.specs.declared.Reading.the-variants.{Bytes, BadCharacter, OddDigits, NoRoom}
+use Rattle.recipe.proofs.Told.{told, place-within}
 use borrow.Author.Needs.{needs}
 use Rattle.recipe.proofs.hex_file.spelled.Statement.{statement}
 use Rattle.recipe.proofs.hex_file.spelled.Tie as tie
 
-first-bad-requires : tie.Need-first-bad-requires
-first-bad-requires c κs = search needs
+read-requires : tie.Need-read-requires
+read-requires c κs = search needs
 
-add-bad-character : tie.Need-add-bad-character
-add-bad-character c = search needs
+enum-known-r : tie.Need-enum-known-r
+enum-known-r c = search needs
+
+enum-known-r-2 : tie.Need-enum-known-r-2
+enum-known-r-2 c = search needs
+
+of-requires : tie.Need-of-requires
+of-requires c κs =
+    let found = c .before in
+    let read = found .before .before .before .before in
+    place-within _ _ _ (search needs) (found .r2 .given .0 .0) _ (found .r2 .given .1) (read .read .ensures)
+
+shared-slice-read-bad-character : tie.Need-shared-slice-read-bad-character
+shared-slice-read-bad-character c =
+    let found = c .before .before .before in
+    let read = found .before .before .before .before in
+    place-within _ _ _ (search needs) (found .r2 .given .0 .0) _ (found .r2 .given .1) (read .read .ensures)
 
 bad-character-requires : tie.Need-bad-character-requires
 bad-character-requires c κs = search needs
 
-returns : tie.Need-returns
-returns c = (search needs, λ e. absurd (subst T (sym e) tt))
-
-read-requires : tie.Need-read-requires
-read-requires c κs = search needs
+enum-known-r-3 : tie.Need-enum-known-r-3
+enum-known-r-3 c = search needs
 
 odd-digits-requires : tie.Need-odd-digits-requires
 odd-digits-requires c κs = search needs
 
+enum-told : tie.Need-enum-told
+enum-told c = search needs
+
+too-long-requires : tie.Need-too-long-requires
+too-long-requires c κs = search needs
+
 same-length : tie.Need-same-length
 same-length c = search needs
 
-returns-2 : tie.Need-returns-2
-returns-2 c = (search needs, λ e. absurd (subst T (sym e) tt))
+returns : tie.Need-returns
+returns c =
+    let found = c .before in
+    let read = found .before .before .before .before in
+    told _ _ _ (search needs) (Bytes (found .r .given .0 .0)) _ (found .r .given .1) (read .read .ensures)
 
 same-length-2 : tie.Need-same-length-2
 same-length-2 c = search needs
 
+returns-2 : tie.Need-returns-2
+returns-2 c =
+    let found = c .before .before .before .before in
+    let read = found .before .before .before .before in
+    told _ _ _ (search needs) (BadCharacter (found .r2 .given .0 .0)) _ (found .r2 .given .1) (read .read .ensures)
+
+same-length-3 : tie.Need-same-length-3
+same-length-3 c = search needs
+
 returns-3 : tie.Need-returns-3
 returns-3 c =
-    let w = c .before .before .before .read .ensures in
-    let n = w .count in
-    let f = c .before .before .before .before .before .before .first-bad .ensures in
-    let o = c .if2 .left in
-    (search needs, λ e. record { good = omega arith; even = omega arith; bytes-are = w .bytes-are })
+    let found = c .before .before in
+    let read = found .before .before .before .before in
+    told _ _ _ (search needs) (OddDigits (found .r3 .given .0 .0)) _ (found .r3 .given .1) (read .read .ensures)
+
+same-length-4 : tie.Need-same-length-4
+same-length-4 c = search needs
+
+returns-4 : tie.Need-returns-4
+returns-4 c =
+    let found = c .before in
+    let read = found .before .before .before .before in
+    told _ _ _ (search needs) (NoRoom (found .enum-told .given .0 .0)) _ (found .enum-told .given .1) (read .read .ensures)
 
 pub spelled-spec : {M : Type 1} → statement M
 spelled-spec =
     tie.close
     (tie.spec
-    first-bad-requires
-    add-bad-character
-    bad-character-requires
-    returns
     read-requires
+    enum-known-r
+    enum-known-r-2
+    of-requires
+    shared-slice-read-bad-character
+    bad-character-requires
+    enum-known-r-3
     odd-digits-requires
+    enum-told
+    too-long-requires
     same-length
-    returns-2
+    returns
     same-length-2
-    returns-3)
+    returns-2
+    same-length-3
+    returns-3
+    same-length-4
+    returns-4)

@@ -14,8 +14,8 @@ add-turns c = search needs
 loop-holds : tie.Need-loop-holds Inv-loop μ-loop
 loop-holds c = tt
 
-piece-requires : tie.Need-piece-requires Inv-loop μ-loop
-piece-requires c κs = search needs
+read-piece-requires : tie.Need-read-piece-requires Inv-loop μ-loop
+read-piece-requires c κs = search needs
 
 wipe-requires : tie.Need-wipe-requires Inv-loop μ-loop
 wipe-requires c κs = search needs
@@ -43,7 +43,7 @@ pieces-spec =
     μ-loop
     add-turns
     loop-holds
-    piece-requires
+    read-piece-requires
     wipe-requires
     returns
     sub-turns

@@ -1,5 +1,5 @@
-use mathlib.Core.Path.{sym, _∙_}
 use borrow.Author.Needs.{needs}
+use mathlib.Core.Path.{sym, _∙_}
 use borrow.Author.Tests.{not-true, not-false}
 use Rattle.stream.proofs.Outcomes.{bad-schedule, bad-direction, bad-count, bad-held, closed-held, good-open}
 use Rattle.stream.proofs.state.bad_state.Statement.{statement}
@@ -15,10 +15,16 @@ is-direction-requires : tie.Need-is-direction-requires
 is-direction-requires c κs = search needs
 
 returns-2 : tie.Need-returns-2
-returns-2 c = bad-direction _ (sym (c .before .before .before .before .pre) ∙ c .before .before .before .if1 .left) (sym (c .before .is-direction .ensures) ∙ not-true _ (c .if2 .taken))
+returns-2 c =
+    let scheduled = c .before .before .before in
+    bad-direction _ (sym (scheduled .before .pre) ∙ scheduled .if1 .left) (sym (c .before .is-direction .ensures) ∙ not-true _ (c .if2 .taken))
 
 returns-3 : tie.Need-returns-3
-returns-3 c = bad-count _ (sym (c .before .before .before .before .before .before .pre) ∙ c .before .before .before .before .before .if1 .left) (sym (c .before .before .before .is-direction .ensures) ∙ not-false _ (c .before .before .if2 .left)) (c .if3 .taken)
+returns-3 c =
+    let directed = c .before .before in
+    let scheduled = directed .before .before .before in
+    bad-count _ (sym (scheduled .before .pre) ∙ scheduled .if1 .left)
+    (sym (directed .before .is-direction .ensures) ∙ not-false _ (directed .if2 .left)) (c .if3 .taken)
 
 slice-aggregate-zero-from : tie.Need-slice-aggregate-zero-from
 slice-aggregate-zero-from c = search needs
@@ -28,18 +34,32 @@ zero-from-requires c κs = search needs
 
 returns-4 : tie.Need-returns-4
 returns-4 c =
-    bad-held _ (sym (c .before .before .before .before .before .before .before .before .before .before .before .pre) ∙ c .before .before .before .before .before .before .before .before .before .before .if1 .left) (sym (c .before .before .before .before .before .before .before .before .is-direction .ensures) ∙ not-false _ (c .before .before .before .before .before .before .before .if2 .left)) (c .before .before .before .before .before .if3 .left)
+    let counted = c .before .before .before .before .before in
+    let directed = counted .before .before in
+    let scheduled = directed .before .before .before in
+    bad-held _ (sym (scheduled .before .pre) ∙ scheduled .if1 .left)
+    (sym (directed .before .is-direction .ensures) ∙ not-false _ (directed .if2 .left)) (counted .if3 .left)
     (sym (c .before .zero-from .ensures) ∙ not-true _ (c .if4 .taken))
 
 returns-5 : tie.Need-returns-5
 returns-5 c =
-    closed-held _ (sym (c .before .before .before .before .before .before .before .before .before .before .before .before .pre) ∙ c .before .before .before .before .before .before .before .before .before .before .before .if1 .left) (sym (c .before .before .before .before .before .before .before .before .before .is-direction .ensures) ∙ not-false _ (c .before .before .before .before .before .before .before .before .if2 .left)) (c .before .before .before .before .before .before .if3 .left)
-    (sym (c .before .before .zero-from .ensures) ∙ not-false _ (c .before .if4 .left)) (c .if5 .taken)
+    let held = c .before in
+    let counted = held .before .before .before .before .before in
+    let directed = counted .before .before in
+    let scheduled = directed .before .before .before in
+    closed-held _ (sym (scheduled .before .pre) ∙ scheduled .if1 .left)
+    (sym (directed .before .is-direction .ensures) ∙ not-false _ (directed .if2 .left)) (counted .if3 .left)
+    (sym (held .before .zero-from .ensures) ∙ not-false _ (held .if4 .left)) (c .if5 .taken)
 
 returns-6 : tie.Need-returns-6
 returns-6 c =
-    good-open _ (sym (c .before .before .before .before .before .before .before .before .before .before .before .before .pre) ∙ c .before .before .before .before .before .before .before .before .before .before .before .if1 .left) (sym (c .before .before .before .before .before .before .before .before .before .is-direction .ensures) ∙ not-false _ (c .before .before .before .before .before .before .before .before .if2 .left)) (c .before .before .before .before .before .before .if3 .left)
-    (sym (c .before .before .zero-from .ensures) ∙ not-false _ (c .before .if4 .left)) (c .if5 .left)
+    let held = c .before in
+    let counted = held .before .before .before .before .before in
+    let directed = counted .before .before in
+    let scheduled = directed .before .before .before in
+    good-open _ (sym (scheduled .before .pre) ∙ scheduled .if1 .left)
+    (sym (directed .before .is-direction .ensures) ∙ not-false _ (directed .if2 .left)) (counted .if3 .left)
+    (sym (held .before .zero-from .ensures) ∙ not-false _ (held .if4 .left)) (c .if5 .left)
 
 pub bad-state-spec : {M : Type 1} → statement M
 bad-state-spec =

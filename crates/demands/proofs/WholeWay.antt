@@ -1,0 +1,47 @@
+-- The whole way: for every legal key, first block and direction, set-up and start accept, and however the pieces are cut, they write the CBC of the cipher's own
+-- written definition under the round keys that its definition makes of the key.
+use mathlib.Core.Path.{_≡_, ap, _∙_}
+use mathlib.Core.Bool.{true}
+use mathlib.Core.List.{List}
+use Prim.Native.Nat.{ℕ}
+use lib.ListN.{length}
+use borrow.Author.Tests.{eq-eqb}
+use Rattle.refusals.specs.Refusals.{done}
+use Rattle.cbc.specs.Cbc.{answer}
+use Rattle.cipher_numbers.specs.Ciphers.{number, isLength, isDirection, padded}
+use Rattle.cipher_numbers.proofs.Legal.{legal-cipher}
+use Rattle.cipher.specs.Schedule.{enciphered, deciphered}
+use Rattle.cipher.specs.Calls.{setUpRefusal, schedule, setUp}
+use Rattle.cipher.specs.declared.Schedule.{Schedule}
+use Rattle.stream.specs.Calls.{startRefusal, start}
+use Rattle.stream.specs.declared.Stream.{Stream}
+use Rattle.demands.specs.Demand3.{Call, acceptedBytes, writtenBytes}
+use Rattle.demands.proofs.Keys.{set-up-good}
+use Rattle.demands.proofs.AnyCut.{written-is}
+
+module _ (n : ℕ) (key : List ℕ) (legal : isLength n (length key) ≡ true) (d : ℕ) (directed : isDirection d ≡ true)
+    (first : List ℕ) (block : length first ≡ 16) where
+  pub set-up-accepts : setUp n key .answer ≡ done
+  unfolding setUp setUpRefusal
+  set-up-accepts = rw (legal-cipher n (length key) legal, legal)
+
+  made : setUp n key .schedule ≡ schedule n key
+  unfolding setUp setUpRefusal
+  made = rw (legal-cipher n (length key) legal, legal)
+
+  pub start-accepts : start (setUp n key .schedule) d first .answer ≡ done
+  unfolding start startRefusal
+  start-accepts = rw (made, set-up-good n key legal, directed, eq-eqb _ _ block)
+
+  -- the stream that the calls give
+  abbrev begun : Stream
+  begun = start (setUp n key .schedule) d first .stream
+
+  pub whole-way : (cs : List Call)
+      → writtenBytes begun cs
+      ≡ answer (number n .encipher (length key) (padded (number n .roundKeys key))) (number n .decipher (length key) (padded (number n .roundKeys key)))
+      d first (acceptedBytes begun cs)
+  unfolding enciphered deciphered schedule
+  whole-way cs =
+      written-is (setUp n key .schedule) d first start-accepts cs
+      ∙ ap (λ (s : Schedule). answer (enciphered s) (deciphered s) d first (acceptedBytes begun cs)) made

@@ -1,0 +1,3 @@
+pub mod StayBytes
+pub mod Undo
+pub mod KeyBytes

@@ -1,0 +1,5 @@
+pub mod Ranges
+pub mod Texts
+pub mod Outcomes
+pub mod Answers
+pub mod Spelt

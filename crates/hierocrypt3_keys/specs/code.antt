@@ -1,0 +1,3 @@
+-- What only serves the code; a reader of 002 may skip it.
+pub mod Exchanged
+pub mod Placed

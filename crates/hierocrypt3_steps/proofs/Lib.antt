@@ -1,0 +1,4 @@
+pub mod Blocks
+pub mod Circulant
+pub mod MdsL
+pub mod RowsH

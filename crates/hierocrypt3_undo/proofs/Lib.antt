@@ -1,0 +1,9 @@
+pub mod Substitution
+pub mod MdsL
+pub mod MdsH
+pub mod Undo
+pub mod P
+pub mod M5E
+pub mod Sigma
+pub mod KeyBytes
+pub mod Symmetry

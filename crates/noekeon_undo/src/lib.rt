@@ -1,0 +1,1 @@
+// Noekeon deciphered undoes Noekeon enciphered, about the definitions. No code.

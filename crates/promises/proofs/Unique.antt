@@ -1,0 +1,58 @@
+-- No second answer meets a call's promise: two results, and two outputs left behind, of which it holds are one.
+use mathlib.Core.Path.{_≡_, sym, ap, _∙_}
+use mathlib.Core.List.{List}
+use Prim.Native.Nat.{ℕ}
+use Rattle.hex.specs.Read.{Read}
+use Rattle.hex.specs.declared.Reading.{Reading}
+use Rattle.cipher.specs.Promises.{SetsUp, WorksBlock}
+use Rattle.cipher.specs.declared.Schedule.{Schedule}
+use Rattle.cipher.specs.declared.SetUp.{SetUp}
+use Rattle.stream.specs.Promises.{Starts, Feeds, Finishes}
+use Rattle.stream.specs.declared.Stream.{Stream}
+use Rattle.stream.specs.declared.Started.{Started}
+use Rattle.stream.specs.declared.Fed.{Fed}
+use Rattle.stream.specs.declared.Finished.{Finished}
+use Rattle.entry.specs.Entry.{WorksForC, TellsVersion}
+use Rattle.speed.specs.Works.{Result, WorksBlocks, WorksMessage, WorksBytes}
+
+pub one-set-up : (n : ℕ) (key : List ℕ) (r r′ : SetUp) → SetsUp n key r → SetsUp n key r′ → r ≡ r′
+one-set-up n key r r′ h h′ = h .returned ∙ sym (h′ .returned)
+
+-- either direction f
+pub one-block : (f : Schedule → List ℕ → List ℕ) (s : Schedule) (x o : List ℕ) (r r′ : ℕ) (q q′ : List ℕ)
+    → WorksBlock f s x o r q → WorksBlock f s x o r′ q′ → (r ≡ r′) × (q ≡ q′)
+one-block f s x o r r′ q q′ h h′ = (h .answered ∙ sym (h′ .answered), h .left ∙ sym (h′ .left))
+
+pub one-start : (s : Schedule) (d : ℕ) (first : List ℕ) (r r′ : Started) → Starts s d first r → Starts s d first r′ → r ≡ r′
+one-start s d first r r′ h h′ = h .returned ∙ sym (h′ .returned)
+
+pub one-feed : (s : Stream) (p o : List ℕ) (r r′ : Fed) (q q′ : List ℕ) → Feeds s p o r q → Feeds s p o r′ q′ → (r ≡ r′) × (q ≡ q′)
+one-feed s p o r r′ q q′ h h′ = (h .returned ∙ sym (h′ .returned), h .left ∙ sym (h′ .left))
+
+pub one-finish : (s : Stream) (r r′ : Finished) → Finishes s r → Finishes s r′ → r ≡ r′
+one-finish s r r′ h h′ = h .returned ∙ sym (h′ .returned)
+
+pub one-entry : (c d : ℕ) (key x o : List ℕ) (r r′ : ℕ) (q q′ : List ℕ)
+    → WorksForC c d key x o r q → WorksForC c d key x o r′ q′ → (r ≡ r′) × (q ≡ q′)
+one-entry c d key x o r r′ q q′ h h′ = (h .answered ∙ sym (h′ .answered), h .left ∙ sym (h′ .left))
+
+pub one-version : (r r′ : ℕ) → TellsVersion r → TellsVersion r′ → r ≡ r′
+one-version r r′ h h′ = h .returned ∙ sym (h′ .returned)
+
+pub one-reading : (text o : List ℕ) (r r′ : Reading) (q q′ : List ℕ) → Read text o r q → Read text o r′ q′ → (r ≡ r′) × (q ≡ q′)
+one-reading text o r r′ q q′ h h′ = (h .answers ∙ sym (h′ .answers), h .writes ∙ sym (h′ .writes))
+
+-- ---- what host/bench measures
+pub one-blocks-measured : (c d : ℕ) (key x o : List ℕ) (r r′ : ℕ) (q q′ : List ℕ)
+    → WorksBlocks c d key x o r q → WorksBlocks c d key x o r′ q′ → (r ≡ r′) × (q ≡ q′)
+one-blocks-measured c d key x o r r′ q q′ h h′ = (h .answered ∙ sym (h′ .answered), h .left ∙ sym (h′ .left))
+
+pub one-message-measured : (c d : ℕ) (key first x o : List ℕ) (r r′ : ℕ) (q q′ : List ℕ)
+    → WorksMessage c d key first x o r q → WorksMessage c d key first x o r′ q′ → (r ≡ r′) × (q ≡ q′)
+one-message-measured c d key first x o r r′ q q′ h h′ = (h .answered ∙ sym (h′ .answered), h .left ∙ sym (h′ .left))
+
+pub one-bytes-measured : (c d : ℕ) (key first x o : List ℕ) (r r′ : ℕ) (q q′ : List ℕ)
+    → WorksBytes c d key first x o r q → WorksBytes c d key first x o r′ q′ → (r ≡ r′) × (q ≡ q′)
+one-bytes-measured c d key first x o r r′ q q′ h h′ =
+    let e = h .worked ∙ sym (h′ .worked) in
+    (ap (λ (x : Result). x .answer) e, ap (λ (x : Result). x .out) e)
