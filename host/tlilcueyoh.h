@@ -1,5 +1,8 @@
 /* Tlilcueyoh: one block of Hierocrypt-3, E2 or Noekeon, enciphered or deciphered.
-   Follows document 01, 'What is built' and 'Refusal numbers'. */
+   Follows document 01, 'What is built' and 'Refusal numbers'.
+
+   The entry works ONE block and doesn't chain: a card of several blocks is CBC, which
+   the caller does around it. host/example/card.c has both directions, for copying. */
 #ifndef TLILCUEYOH_H
 #define TLILCUEYOH_H
 
@@ -10,8 +13,15 @@
 extern "C" {
 #endif
 
+/* The version that this header speaks of. The archive's is what tlilcueyoh_version
+   answers: a host that compares them notices an archive of another version. */
+#define TLILCUEYOH_VERSION 1
+
 /* Every block has this many bytes. */
 #define TLILCUEYOH_BLOCK_BYTES 16
+
+/* No call needs more stack than this; host/check measures it. */
+#define TLILCUEYOH_STACK_BYTES 4096
 
 /* Ciphers, with their legal key lengths in bytes. */
 #define TLILCUEYOH_HIEROCRYPT3 1 /* 16, 24 or 32 */
@@ -44,8 +54,8 @@ extern "C" {
    - each pointer is good for its length: key and in for reading, out for writing.
      A pointer with length 0 may be null; no other may;
    - no byte of out's out_len bytes is also a byte of key or of in, even where the
-     call is going to be refused. A block can't be worked in place. key and in are
-     only read and may overlap each other;
+     call is going to be refused. A block can't be worked in place: input and output
+     are never the same bytes. key and in are only read and may overlap each other;
    - no one else writes key or in, or touches out, while the call runs.
    Otherwise the behaviour is undefined.
 
@@ -61,11 +71,14 @@ extern "C" {
      calls, so calls may run at the same time in any number of threads.
 
    Not promised: that the time taken tells nothing of key or block, or that traces of
-   the key are wiped from the stack. */
+   the key are wiped from the stack. host/example/card.c has a wrapper that wipes. */
 uint64_t tlilcueyoh_block(uint64_t cipher, uint64_t direction,
                           const uint8_t *key, size_t key_len,
                           const uint8_t *in, size_t in_len,
                           uint8_t *out, size_t out_len);
+
+/* The archive's version: TLILCUEYOH_VERSION, if header and archive belong together. */
+uint64_t tlilcueyoh_version(void);
 
 #ifdef __cplusplus
 }

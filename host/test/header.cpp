@@ -4,5 +4,6 @@
 
 int main()
 {
-    return tlilcueyoh_block(0, 0, nullptr, 0, nullptr, 0, nullptr, 0) == TLILCUEYOH_UNKNOWN_CIPHER ? 0 : 1;
+    bool same = tlilcueyoh_version() == TLILCUEYOH_VERSION;
+    return same && tlilcueyoh_block(0, 0, nullptr, 0, nullptr, 0, nullptr, 0) == TLILCUEYOH_UNKNOWN_CIPHER ? 0 : 1;
 }
