@@ -1,5 +1,6 @@
 /* One block of a card, deciphered as the controller's firmware does it, for copying: the call, and what to do after
-   each of its answers. It reads nothing but the arrays below and prints what it did. */
+   each of its answers. The entry works one block and doesn't chain; a card of several blocks is card.c's.
+   It reads nothing but the arrays below and prints what it did. */
 #include "tlilcueyoh.h"
 
 #include <stdio.h>
