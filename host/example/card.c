@@ -2,8 +2,9 @@
    C(0) the first block (document 01, 'Refusal numbers', last paragraph).
 
    The entry sets the key up in every call, since it keeps nothing between calls. What that costs is the difference of the
-   lines `entry-` and CIPHER-WAY in docs/BENCHMARK.md: for Hierocrypt-3 and E2 several times the block itself. Firmware
-   that has Rattle, and not C, around it calls `set_up` once and feeds a stream.
+   lines `entry-` and CIPHER-WAY in docs/BENCHMARK.md: with Hierocrypt-3 one and a half to two times the block's own time,
+   with E2 one and a third, with Noekeon four tenths. Firmware that has Rattle, and not C, around it calls `set_up` once
+   and feeds a stream.
 
    card CIPHER DIRECTION KEY FIRST: numbers, and hex digits; the message from standard input, the result to standard
    output. It ends with 1 if a call is refused or the message isn't whole blocks. */
