@@ -6,10 +6,11 @@ use Prim.Native.Nat.{ℕ, _<_, _≤_}
 use native.Mathlib.Omega.{arith}
 use lib.Dec.{eqb, ltb}
 use lib.ListN.{length, drop}
-use borrow.Author.Tests.{eq-eqb, ne-eqb, lt-ltb, le-ltb, eqb-true, ltb-false}
+use borrow.Author.Tests.{eq-eqb, ne-eqb, not-false, eqb-true, ltb-false}
 use Rattle.laws.specs.Choice.{choose}
-use Rattle.words.specs.Zeros.{zeros}
+use Rattle.runs.specs.Zeros.{zeros}
 use Rattle.refusals.specs.Refusals as refusal
+use Rattle.refusals.proofs.Clear.{set-up-clear, block-clear}
 use Rattle.cipher_numbers.specs.Ciphers.{number, isCipher, isLength, padded}
 use Rattle.cipher.specs.Schedule.{scheduleOf, bad, zeroSchedule}
 use Rattle.cipher.specs.Calls.{setUpRefusal, schedule, setUpAs, setUp, blockRefusal, blockOut}
@@ -45,38 +46,23 @@ module _ (s : Schedule) where
 
 -- ---- set-up
 module _ (n : ℕ) (key : List ℕ) where
-  pub set-up-unknown : isCipher n ≡ false → setUpAs refusal.unknownCipher zeroSchedule ≡ setUp n key
-  unfolding setUp setUpRefusal
-  set-up-unknown a = rw a
+  pub set-up-refused : (k : ℕ) → k ≡ setUpRefusal n key → (k ≡ refusal.done → ⊥) → setUpAs k zeroSchedule ≡ setUp n key
+  unfolding setUp
+  set-up-refused k e z = rw (← e, ne-eqb _ _ z)
 
-  pub set-up-length : isCipher n ≡ true → isLength n (length key) ≡ false → setUpAs refusal.keyLength zeroSchedule ≡ setUp n key
-  unfolding setUp setUpRefusal
-  set-up-length a b = rw (a, b)
+  -- an accepted key is legal
+  pub accepted-key : setUpRefusal n key ≡ refusal.done → isLength n (length key) ≡ true
+  unfolding setUpRefusal
+  accepted-key e = not-false _ (set-up-clear (not (isCipher n)) (not (isLength n (length key))) e .1 .0)
 
   -- a record of such fields is what set-up returns for a legal key
-  pub set-up-done : isCipher n ≡ true → isLength n (length key) ≡ true → (keys : List ℕ) (c l : ℕ)
+  pub set-up-done : setUpRefusal n key ≡ refusal.done → (keys : List ℕ) (c l : ℕ)
       → keys ≡ padded (number n .roundKeys key) → c ≡ n → l ≡ length key → setUpAs refusal.done (scheduleOf keys c l) ≡ setUp n key
-  unfolding setUp setUpRefusal schedule
-  set-up-done a b keys c l e f g = rw (a, b, e, f, g)
+  unfolding setUp schedule
+  set-up-done a keys c l e f g = rw (eq-eqb _ _ a, e, f, g)
 
 -- ---- one block
 module _ (s : Schedule) (n room : ℕ) where
-  pub block-bad : bad s ≡ true → refusal.badSchedule ≡ blockRefusal s n room
-  unfolding blockRefusal
-  block-bad a = rw a
-
-  pub block-length : bad s ≡ false → (n ≡ 16 → ⊥) → refusal.blockLength ≡ blockRefusal s n room
-  unfolding blockRefusal
-  block-length a b = rw (a, ne-eqb _ _ b)
-
-  pub block-no-room : bad s ≡ false → n ≡ 16 → room < 16 → refusal.noRoom ≡ blockRefusal s n room
-  unfolding blockRefusal
-  block-no-room a b h = rw (a, eq-eqb _ _ b, lt-ltb _ _ h)
-
-  pub block-done : bad s ≡ false → n ≡ 16 → 16 ≤ room → refusal.done ≡ blockRefusal s n room
-  unfolding blockRefusal
-  block-done a b h = rw (a, eq-eqb _ _ b, le-ltb _ _ h)
-
   -- what an accepted block tells
   pub record AcceptedBlock : Type 0 where
     pub good : bad s ≡ false
@@ -85,13 +71,9 @@ module _ (s : Schedule) (n room : ℕ) where
 
   pub accepted-block : blockRefusal s n room ≡ refusal.done → AcceptedBlock
   unfolding blockRefusal
-  accepted-block = at (bad s) (eqb n 16) (ltb room 16) refl refl refl
-    where
-      at : (t u v : Bool) → bad s ≡ t → eqb n 16 ≡ u → ltb room 16 ≡ v → refusal.blockOrder t (not u) v ≡ refusal.done → AcceptedBlock
-      at true u v e f g h = absurd (omega arith)
-      at false false v e f g h = absurd (omega arith)
-      at false true true e f g h = absurd (omega arith)
-      at false true false e f g h = record { good = e; whole = eqb-true n 16 f; fits = ltb-false room 16 g }
+  accepted-block e =
+      let c = block-clear (bad s) (not (eqb n 16)) (ltb room 16) e in
+      record { good = c .0; whole = eqb-true n 16 (not-false _ (c .1 .0)); fits = ltb-false room 16 (c .1 .1 .0) }
 
 module _ (f : Schedule → List ℕ → List ℕ) (s : Schedule) (x o : List ℕ) where
   pub out-refused : (blockRefusal s (length x) (length o) ≡ refusal.done → ⊥) → o ≡ blockOut f s x o

@@ -6,7 +6,7 @@ use lib.Dec.{eqb}
 use lib.ListN.{drop}
 use Rattle.laws.specs.Choice.{choose}
 use Rattle.laws.specs.Places.{tab}
-use Rattle.words.specs.Zeros.{zeros}
+use Rattle.runs.specs.Zeros.{zeros}
 use Rattle.cipher_numbers.specs.Ciphers.{number, isCipher, isLength}
 use Rattle.cipher.specs.declared.Schedule.{Schedule}
 

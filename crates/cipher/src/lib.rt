@@ -1,10 +1,10 @@
 // Whichever cipher: the schedule record, set-up and one block (01, 'The two records' and 'Refusal numbers').
+use blocks_lent::Way;
 use cipher_blocks::alone;
-use cipher_blocks::chain::Way;
 ghost use mathlib.Core.Path.{_≡_};
 ghost use lib.ListN.{length};
 ghost use Rattle.cipher.specs.Schedule.{scheduleOf, bad, zeroSchedule, inDirection};
-ghost use Rattle.cipher.specs.Calls.{setUpAs, blockRefusal};
+ghost use Rattle.cipher.specs.Calls.{setUpRefusal, setUpAs, blockRefusal};
 ghost use Rattle.cipher.specs.Promises.{SetsUp, WorksBlock, EnciphersBlock, DeciphersBlock};
 
 pub struct Schedule {
@@ -59,15 +59,22 @@ fn refused(answer: u8) -> SetUp
     SetUp { answer, schedule }
 }
 
+// The refusal of a key for the cipher of a number, or 0.
+fn set_up_refusal(cipher: u64, key: &[u8]) -> u8
+    ensures { λ r. ⌜ r ≡ setUpRefusal cipher (now (key .entry)) ⌝ }
+{
+    let unknown = !cipher_numbers::is_cipher(cipher);
+    let length = !cipher_numbers::is_length(cipher, key.len());
+    refusals::set_up::first(unknown, length)
+}
+
 // The schedule of a key, for the cipher of a number.
 pub fn set_up(cipher: u64, key: &[u8]) -> SetUp
     ensures { λ r. ⌜ SetsUp cipher (now (key .entry)) r ⌝ }
 {
-    if !cipher_numbers::is_cipher(cipher) {
-        return refused(refusals::UNKNOWN_CIPHER);
-    }
-    if !cipher_numbers::is_length(cipher, key.len()) {
-        return refused(refusals::KEY_LENGTH);
+    let no = set_up_refusal(cipher, key);
+    if no != refusals::DONE {
+        return refused(no);
     }
     let round_keys = cipher_numbers::round_keys(cipher, key);
     let schedule = Schedule {
@@ -85,16 +92,7 @@ pub fn set_up(cipher: u64, key: &[u8]) -> SetUp
 fn block_refusal(s: Schedule, block: usize, room: usize) -> u8
     ensures { λ r. ⌜ r ≡ blockRefusal s block room ⌝ }
 {
-    if bad_schedule(s) {
-        return refusals::BAD_SCHEDULE;
-    }
-    if block != 16 {
-        return refusals::BLOCK_LENGTH;
-    }
-    if room < 16 {
-        return refusals::NO_ROOM;
-    }
-    refusals::DONE
+    refusals::block::first(bad_schedule(s), block != 16, room < 16)
 }
 
 // One block in a direction to the front of the output.

@@ -1,7 +1,6 @@
 // Blocks under a cipher's round keys, each by itself. One block is worked by this, and a cipher's speed is measured by it.
-use crate::chain::Way;
-use crate::chain::deciphered;
-use crate::chain::enciphered;
+use blocks_lent::Way;
+use blocks_lent::alone::run_with;
 use cipher_numbers::E2;
 use cipher_numbers::ENCIPHER;
 use cipher_numbers::HIEROCRYPT3;
@@ -12,41 +11,7 @@ ghost use mathlib.Core.List.{_++_};
 ghost use Prim.Native.Nat.{_*_, _≤_};
 ghost use lib.ListN.{length, drop};
 ghost use Rattle.cbc.specs.Cbc.{blocks, join};
-ghost use Rattle.cipher_blocks.specs.Ways.{F, each, Lent, LegalWay};
-
-// One block in its direction, with the tables lent.
-fn worked(sbox: &[u8], table: &[u32], keys: &[u8; 288], way: Way, block: [u8; 16]) -> [u8; 16]
-    requires { ⌜ Lent way (now sbox) (now table) × LegalWay way ⌝ }
-    ensures { λ r. ⌜ r ≡ F way (now (keys .entry)) block ⌝ }
-{
-    if way.direction == ENCIPHER {
-        return enciphered(sbox, table, keys, way, block);
-    }
-    deciphered(sbox, table, keys, way, block)
-}
-
-// As `run`, with the tables lent.
-fn run_with(
-    sbox: &[u8],
-    table: &[u32],
-    keys: &[u8; 288],
-    way: Way,
-    input: &[u8],
-    out: &mut [u8],
-    n: usize,
-)
-    requires { ⌜ Lent way (now sbox) (now table) × LegalWay way × (16 * n ≤ length (now input)) × (16 * n ≤ length (now out)) ⌝ }
-    ensures { λ r. ⌜ now (out .exit) ≡ join (each (F way (now (keys .entry))) (blocks n (now (input .entry)))) ++ drop (16 * n) (now (out .entry)) ⌝ }
-{
-    let mut j: usize = 0;
-    while j < n {
-        let at = 16 * j;
-        let x = words::bytes::block_at(input, at);
-        let y = worked(sbox, table, keys, way, x);
-        words::bytes::store(out, at, y);
-        j += 1;
-    }
-}
+ghost use Rattle.blocks_lent.specs.Ways.{F, each, LegalWay};
 
 // The first n blocks of the input, each by itself, to the front of the output.
 pub fn run(keys: &[u8; 288], way: Way, input: &[u8], out: &mut [u8], n: usize)

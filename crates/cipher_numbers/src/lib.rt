@@ -3,7 +3,7 @@ ghost use mathlib.Core.Path.{_≡_};
 ghost use mathlib.Core.Bool.{true};
 ghost use mathlib.Core.List.{[], _∷_};
 ghost use lib.ListN.{length, drop};
-ghost use Rattle.words.specs.Zeros.{zeros};
+ghost use Rattle.runs.specs.Zeros.{zeros};
 ghost use Rattle.cipher_numbers.specs.Ciphers.{number, isCipher, isLength, isDirection, member, padded};
 
 pub const HIEROCRYPT3: u64 = 1;
@@ -73,17 +73,17 @@ pub fn rest_is_zero(keys: &[u8; 288], cipher: u64, len: usize) -> bool
 {
     if cipher == HIEROCRYPT3 {
         if len == 16 {
-            return words::bytes::zero_from(keys, 224);
+            return runs::zero_from(keys, 224);
         }
         if len == 24 {
-            return words::bytes::zero_from(keys, 256);
+            return runs::zero_from(keys, 256);
         }
-        return words::bytes::zero_from(keys, 288);
+        return runs::zero_from(keys, 288);
     }
     if cipher == E2 {
-        return words::bytes::zero_from(keys, 256);
+        return runs::zero_from(keys, 256);
     }
-    words::bytes::zero_from(keys, 16)
+    runs::zero_from(keys, 16)
 }
 
 // The round keys of a key, zeros behind.

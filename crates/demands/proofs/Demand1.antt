@@ -9,15 +9,17 @@ use lib.Dec.{eqb}
 use lib.ListN.{length, drop, replicate, length-drop}
 use lib.Seq.{drop-at}
 use borrow.Author.Tests.{eq-eqb, ne-eqb, le-ltb, eqb-true, eqb-false}
-use Rattle.words.specs.Zeros.{zeros}
+use Rattle.runs.specs.Zeros.{zeros}
 use Rattle.refusals.specs.Refusals as refusal
-use Rattle.stream.specs.State.{limit, heldNumber, atHand, held15, badState}
+use Rattle.pieces.specs.Pieces.{limit, held15}
+use Rattle.stream.specs.State.{heldNumber, atHand, badState}
 use Rattle.stream.specs.Calls.{made, pieceRefusal, fed, fedAs, feed, feedOut, finishRefusal, closedStream, finishedAs, finish}
 use Rattle.stream.specs.declared.Stream.{Stream}
 use Rattle.stream.specs.declared.Fed.{Fed}
 use Rattle.stream.specs.declared.Finished.{Finished}
-use Rattle.stream.proofs.Hand.{hand-length}
-use Rattle.stream.proofs.Outcomes.{good, good-open, closed-held, accepted-piece, finish-closed, finish-held, finish-done, finish-refused, finish-accepted}
+use Rattle.pieces.proofs.Hand.{hand-length}
+use Rattle.stream.proofs.Outcomes.{good, good-open, closed-held, accepted-piece, finish-refused, finish-accepted}
+use Rattle.demands.proofs.Answers.{finish-closed, finish-held, finish-done}
 use Rattle.demands.proofs.Demand3.{zeros-replicate}
 
 -- ---- a piece, by its refusal

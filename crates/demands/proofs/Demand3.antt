@@ -10,7 +10,7 @@ use lib.ListN.{length, take, drop, replicate, length-append}
 use lib.Seq.{take-at, drop-at}
 use borrow.Author.Tests.{eq-eqb, ne-eqb, le-ltb, eqb-true}
 use Rattle.laws.specs.Choice.{choose}
-use Rattle.words.specs.Zeros.{zeros}
+use Rattle.runs.specs.Zeros.{zeros}
 use Rattle.refusals.specs.Refusals as refusal
 use Rattle.cipher_numbers.specs.Ciphers.{isDirection}
 use Rattle.cipher.specs.Schedule.{bad, enciphered, deciphered}
@@ -19,7 +19,8 @@ use Rattle.cbc.specs.Cbc.{chain, join, blocks, whole, rest, completed, answer}
 use Rattle.cbc.proofs.Parts.{out-none, chain-none}
 use Rattle.cbc.proofs.Cut.{rest-length, cut-rest, cut-answer, cut-chain}
 use Rattle.cbc.proofs.Sized.{Sized, out-long}
-use Rattle.stream.specs.State.{streamOf, limit, atHand, held15, badState}
+use Rattle.pieces.specs.Pieces.{limit, held15}
+use Rattle.stream.specs.State.{streamOf, atHand, badState}
 use Rattle.stream.specs.Calls.{pieceRefusal, fed, fedAs, fedBytes, feed, feedOut, finishRefusal, finishedAs, finish}
 use Rattle.demands.specs.Demand3.{Call, next, accepted, written, after, acceptedBytes, writtenBytes, CutAnywhere}
 use Rattle.demands.specs.Demand3.Call.{piece, end}
@@ -28,6 +29,7 @@ use Rattle.stream.specs.declared.Fed.{Fed}
 use Rattle.stream.specs.declared.Finished.{Finished}
 use Rattle.stream.proofs.Outcomes as outcomes
 use Rattle.stream.proofs.Outcomes.{good-open, closed-held}
+use Rattle.demands.proofs.Answers.{piece-closed, finish-closed}
 
 pub zeros-replicate : (n : ℕ) → zeros (replicate n 0) ≡ true
 zeros-replicate zero = refl
@@ -91,10 +93,10 @@ module _ (s : Schedule) (d : ℕ) (c : List ℕ) where
     -- a closed stream refuses, and stands
     closed-piece : (a p o : List ℕ) → length a ≤ limit → length a % 16 ≡ 0 → feed (at true a) p (length o) ≡ fedAs refusal.closed 0 (at true a)
     closed-piece a p o l w =
-        sym (outcomes.piece-refused (at true a) p o _ (outcomes.piece-closed (at true a) (length p) (length o) (good-at true a l (λ e. w)) refl) (λ z. omega arith) .0)
+        sym (outcomes.piece-refused (at true a) p o _ (piece-closed (at true a) (good-at true a l (λ e. w)) (length p) (length o) refl) (λ z. omega arith) .0)
 
     closed-end : (a : List ℕ) → length a ≤ limit → length a % 16 ≡ 0 → finish (at true a) ≡ finishedAs refusal.closed (at true a)
-    closed-end a l w = sym (outcomes.finish-refused (at true a) _ (outcomes.finish-closed (at true a) (good-at true a l (λ e. w)) refl) (λ z. omega arith))
+    closed-end a l w = sym (outcomes.finish-refused (at true a) _ (finish-closed (at true a) (good-at true a l (λ e. w)) refl) (λ z. omega arith))
 
     first-ok : (a o : List ℕ) → length a ≤ limit → 16 * (length a / 16) ≤ length o → pieceRefusal (at false []) (length a) (length o) ≡ 0
     unfolding pieceRefusal

@@ -8,7 +8,7 @@ use lib.ListN.{length, getD, drop, length-drop, List·getD-eq-default}
 use lib.Seq.{getD-drop}
 use borrow.Author.Tests.{eq-eqb}
 use Rattle.laws.proofs.Places.{length-tab, getD-tab}
-use Rattle.words.specs.Zeros.{zeros}
+use Rattle.runs.specs.Zeros.{zeros}
 use Rattle.hierocrypt3_steps.specs.Rounds.{T}
 use Rattle.hierocrypt3_keys.specs.Keys.{K}
 use Rattle.hierocrypt3_keys.specs.Keys as hierocrypt3-keys

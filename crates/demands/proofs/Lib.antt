@@ -1,3 +1,4 @@
+pub mod Answers
 pub mod Keys
 pub mod Undo
 pub mod Demand1

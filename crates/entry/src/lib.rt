@@ -1,6 +1,6 @@
 // What C calls: one block, on numbers and byte slices (01, 'What is built'). No schedule record is made, tested or copied for it.
+use blocks_lent::Way;
 use cipher_blocks::alone;
-use cipher_blocks::chain::Way;
 ghost use mathlib.Core.Path.{_≡_};
 ghost use Rattle.entry.specs.Entry.{entryRefusal, WorksForC, TellsVersion};
 
@@ -8,22 +8,10 @@ ghost use Rattle.entry.specs.Entry.{entryRefusal, WorksForC, TellsVersio
 pub fn refusal(cipher: u64, direction: u64, key: usize, block: usize, room: usize) -> u8
     ensures { λ r. ⌜ r ≡ entryRefusal cipher direction key block room ⌝ }
 {
-    if !cipher_numbers::is_cipher(cipher) {
-        return refusals::UNKNOWN_CIPHER;
-    }
-    if !cipher_numbers::is_length(cipher, key) {
-        return refusals::KEY_LENGTH;
-    }
-    if !cipher_numbers::is_direction(direction) {
-        return refusals::DIRECTION;
-    }
-    if block != 16 {
-        return refusals::BLOCK_LENGTH;
-    }
-    if room < 16 {
-        return refusals::NO_ROOM;
-    }
-    refusals::DONE
+    let unknown = !cipher_numbers::is_cipher(cipher);
+    let length = !cipher_numbers::is_length(cipher, key);
+    let undirected = !cipher_numbers::is_direction(direction);
+    refusals::entry::first(unknown, length, undirected, block != 16, room < 16)
 }
 
 // One block enciphered (direction 1) or deciphered (2) under a key, to the front of the output. 0 is done.

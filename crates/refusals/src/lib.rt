@@ -1,4 +1,11 @@
-// The refusals of 01's table, and of later requests, by name: the one place where a number stands in code.
+// The refusals of 01's table, and of later requests, by name: the one place where a number stands in code. And for each call the first that applies.
+pub mod block;
+pub mod entry;
+pub mod finish;
+pub mod piece;
+pub mod set_up;
+pub mod start;
+
 pub const DONE: u8 = 0;
 
 pub const UNKNOWN_CIPHER: u8 = 1;

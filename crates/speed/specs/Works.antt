@@ -8,7 +8,7 @@ use lib.ListN.{length, drop}
 use Rattle.laws.specs.Choice.{choose}
 use Rattle.refusals.specs.Refusals.{done, blockLength, noRoom, first}
 use Rattle.cbc.specs.Cbc.{join, whole}
-use Rattle.cipher_blocks.specs.Ways.{each}
+use Rattle.blocks_lent.specs.Ways.{each}
 use Rattle.cipher.specs.Calls.{setUp}
 use Rattle.stream.specs.Calls.{start, feed, feedOut}
 use Rattle.stream.specs.declared.Stream.{Stream}

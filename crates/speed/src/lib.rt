@@ -1,6 +1,6 @@
 // What host/bench measures: blocks each by themselves, and a message through a stream in one piece and byte by byte.
+use blocks_lent::Way;
 use cipher_blocks::alone;
-use cipher_blocks::chain::Way;
 use stream::Stream;
 ghost use mathlib.Core.Path.{_≡_};
 ghost use Rattle.speed.specs.Works.{begun, WorksBlocks, WorksMessage, WorksBytes};

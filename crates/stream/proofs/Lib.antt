@@ -1,2 +1,1 @@
-pub mod Hand
 pub mod Outcomes

@@ -7,15 +7,17 @@ use native.Mathlib.Omega.{arith}
 use lib.Dec.{ltb, eqb}
 use lib.ListN.{length, take, drop}
 use lib.Seq.{take-all}
-use borrow.Author.Tests.{eq-eqb, ne-eqb, lt-ltb, le-ltb, ltb-false, eqb-true}
+use borrow.Author.Tests.{eq-eqb, ne-eqb, lt-ltb, le-ltb, not-false, ltb-false, eqb-true}
 use Rattle.laws.specs.Choice.{choose}
-use Rattle.words.specs.Zeros.{zeros}
+use Rattle.runs.specs.Zeros.{zeros}
 use Rattle.refusals.specs.Refusals as refusal
+use Rattle.refusals.proofs.Clear.{start-clear, piece-clear}
 use Rattle.cipher_numbers.specs.Ciphers.{isDirection}
 use Rattle.cipher.specs.Schedule.{bad, enciphered, deciphered}
 use Rattle.cipher.specs.declared.Schedule.{Schedule}
 use Rattle.cbc.specs.Cbc.{chain, blocks, Chained}
-use Rattle.stream.specs.State.{streamOf, fresh, limit, heldNumber, atHand, held15, badState, zeroStream}
+use Rattle.pieces.specs.Pieces.{limit, held15}
+use Rattle.stream.specs.State.{streamOf, fresh, heldNumber, atHand, badState, zeroStream}
 use Rattle.stream.specs.Calls.{startRefusal, startedAs, start, made, pieceRefusal, fed, fedAs, fedBytes, feed, feedOut, finishRefusal, closedStream, finishedAs, finish}
 use Rattle.stream.specs.declared.Stream.{Stream}
 
@@ -68,29 +70,8 @@ good s = at (bad (s .schedule)) (isDirection (s .direction)) (ltb limit (s .coun
     at false true false false e f g h z = absurd (true≢false z)
     at false true false true e f g h z = record { schedule = e; direction = f; count = ltb-false _ _ g; held = h }
 
--- ---- the refusal of a piece
+-- ---- a piece
 module _ (s : Stream) (n room : ℕ) where
-  pub piece-bad : badState s ≡ true → refusal.badState ≡ pieceRefusal s n room
-  unfolding pieceRefusal
-  piece-bad a = rw a
-
-  module _ (a : badState s ≡ false) where
-    pub piece-closed : s .closed ≡ true → refusal.closed ≡ pieceRefusal s n room
-    unfolding pieceRefusal
-    piece-closed b = rw (a, b)
-
-    pub piece-over : s .closed ≡ false → limit - s .count < n → refusal.overLimit ≡ pieceRefusal s n room
-    unfolding pieceRefusal
-    piece-over b h = let g = good s a .count in rw (a, b, lt-ltb limit (s .count + n) (omega arith))
-
-    pub piece-no-room : s .closed ≡ false → n ≤ limit - s .count → room < (s .count % 16 + n) / 16 * 16 → refusal.noRoom ≡ pieceRefusal s n room
-    unfolding pieceRefusal
-    piece-no-room b h r = let g = good s a .count in rw (a, b, le-ltb limit (s .count + n) (omega arith), lt-ltb room (16 * made s n) (omega arith))
-
-    pub piece-done : s .closed ≡ false → n ≤ limit - s .count → (s .count % 16 + n) / 16 * 16 ≤ room → refusal.done ≡ pieceRefusal s n room
-    unfolding pieceRefusal
-    piece-done b h r = let g = good s a .count in rw (a, b, le-ltb limit (s .count + n) (omega arith), le-ltb room (16 * made s n) (omega arith))
-
   -- what an accepted piece tells
   pub record AcceptedPiece : Type 0 where
     pub state : badState s ≡ false
@@ -100,17 +81,10 @@ module _ (s : Stream) (n room : ℕ) where
 
   pub accepted-piece : pieceRefusal s n room ≡ refusal.done → AcceptedPiece
   unfolding pieceRefusal
-  accepted-piece = at (badState s) (s .closed) (ltb limit (s .count + n)) (ltb room (16 * made s n)) refl refl refl refl
-    where
-      at : (t u v w : Bool) → badState s ≡ t → s .closed ≡ u → ltb limit (s .count + n) ≡ v → ltb room (16 * made s n) ≡ w
-          → refusal.pieceOrder t u v w ≡ refusal.done → AcceptedPiece
-      at true u v w e f g h z = absurd (omega arith)
-      at false true v w e f g h z = absurd (omega arith)
-      at false false true w e f g h z = absurd (omega arith)
-      at false false false true e f g h z = absurd (omega arith)
-      at false false false false e f g h z = record { state = e; unclosed = f; within = ltb-false _ _ g; fits = ltb-false _ _ h }
+  accepted-piece e =
+      let c = piece-clear (badState s) (s .closed) (ltb limit (s .count + n)) (ltb room (16 * made s n)) e in
+      record { state = c .0; unclosed = c .1 .0; within = ltb-false _ _ (c .1 .1 .0); fits = ltb-false _ _ (c .1 .1 .1 .0) }
 
--- ---- a piece
 module _ (s : Stream) (p o : List ℕ) where
   pub piece-refused : (k : ℕ) → k ≡ pieceRefusal s (length p) (length o) → (k ≡ refusal.done → ⊥)
       → (fedAs k 0 s ≡ feed s p (length o)) × (o ≡ feedOut s p o)
@@ -131,22 +105,6 @@ module _ (s : Stream) (p o : List ℕ) where
 
 -- ---- finish
 module _ (s : Stream) where
-  pub finish-bad : badState s ≡ true → refusal.badState ≡ finishRefusal s
-  unfolding finishRefusal
-  finish-bad a = rw a
-
-  pub finish-closed : badState s ≡ false → s .closed ≡ true → refusal.closed ≡ finishRefusal s
-  unfolding finishRefusal
-  finish-closed a b = rw (a, b)
-
-  pub finish-held : badState s ≡ false → s .closed ≡ false → (heldNumber s ≡ 0 → ⊥) → refusal.bytesHeld ≡ finishRefusal s
-  unfolding finishRefusal
-  finish-held a b z = rw (a, b, ne-eqb _ _ z)
-
-  pub finish-done : badState s ≡ false → s .closed ≡ false → heldNumber s ≡ 0 → refusal.done ≡ finishRefusal s
-  unfolding finishRefusal
-  finish-done a b z = rw (a, b, eq-eqb _ _ z)
-
   pub finish-refused : (k : ℕ) → k ≡ finishRefusal s → (k ≡ refusal.done → ⊥) → finishedAs k s ≡ finish s
   unfolding finish
   finish-refused k e z = rw (← e, ne-eqb _ _ z)
@@ -157,23 +115,28 @@ module _ (s : Stream) where
 
 -- ---- start
 module _ (s : Schedule) (d : ℕ) (first : List ℕ) where
-  pub start-bad : bad s ≡ true → startedAs refusal.badSchedule zeroStream ≡ start s d first
-  unfolding start startRefusal
-  start-bad a = rw a
+  pub start-refused : (k : ℕ) → k ≡ startRefusal s d (length first) → (k ≡ refusal.done → ⊥) → startedAs k zeroStream ≡ start s d first
+  unfolding start
+  start-refused k e z = rw (← e, ne-eqb _ _ z)
 
-  pub start-direction : bad s ≡ false → isDirection d ≡ false → startedAs refusal.direction zeroStream ≡ start s d first
-  unfolding start startRefusal
-  start-direction a b = rw (a, b)
+  -- what an accepted start tells
+  pub record AcceptedStart : Type 0 where
+    pub directed : isDirection d ≡ true
+    pub whole : length first ≡ 16
 
-  pub start-first : bad s ≡ false → isDirection d ≡ true → (length first ≡ 16 → ⊥) → startedAs refusal.firstBlockLength zeroStream ≡ start s d first
-  unfolding start startRefusal
-  start-first a b z = rw (a, b, ne-eqb _ _ z)
+  pub accepted-start : startRefusal s d (length first) ≡ refusal.done → AcceptedStart
+  unfolding startRefusal
+  accepted-start e =
+      let c = start-clear (bad s) (not (isDirection d)) (not (eqb (length first) 16)) e in
+      record { directed = not-false _ (c .1 .0); whole = eqb-true _ _ (not-false _ (c .1 .1 .0)) }
 
   -- the stream that the code makes of a direction and a first block
-  pub start-done : bad s ≡ false → isDirection d ≡ true → length first ≡ 16 → (d′ : ℕ) (c : List ℕ) → d′ ≡ d → c ≡ take 16 (drop 0 first)
+  pub start-done : startRefusal s d (length first) ≡ refusal.done → (d′ : ℕ) (c : List ℕ) → d′ ≡ d → c ≡ take 16 (drop 0 first)
       → startedAs refusal.done (fresh s d′ c) ≡ start s d first
-  unfolding start startRefusal
-  start-done a b z d′ c e f = rw (e, f, take-all 16 first (omega arith), a, b, eq-eqb _ _ z)
+  unfolding start
+  start-done ok d′ c e f =
+      let w = accepted-start ok .whole in
+      rw (e, f, take-all 16 first (omega arith), eq-eqb _ _ ok)
 
 pub direction-small : (d : ℕ) → isDirection d ≡ true → d ≤ 2
 unfolding isDirection

@@ -10,7 +10,8 @@ use Rattle.cipher_numbers.specs.Ciphers.{isDirection}
 use Rattle.cipher.specs.Schedule.{bad, enciphered, deciphered}
 use Rattle.cipher.specs.declared.Schedule.{Schedule}
 use Rattle.cbc.specs.Cbc.{out, chain, join, blocks, completed}
-use Rattle.stream.specs.State.{streamOf, fresh, limit, heldNumber, atHand, held15, badState, zeroStream}
+use Rattle.pieces.specs.Pieces.{limit, held15}
+use Rattle.stream.specs.State.{streamOf, fresh, heldNumber, atHand, badState, zeroStream}
 use Rattle.stream.specs.declared.Stream.{Stream}
 use Rattle.stream.specs.declared.Started.{Started}
 use Rattle.stream.specs.declared.Fed.{Fed}

@@ -1,11 +1,12 @@
 -- The stream's state and when it is bad: 01, 'The two records'.
 use mathlib.Core.Bool.{Bool, true, false, not}
 use mathlib.Core.List.{List, _++_}
-use Prim.Native.Nat.{ℕ, _-_, _%_}
+use Prim.Native.Nat.{ℕ, _%_}
 use lib.Dec.{ltb, eqb}
-use lib.ListN.{length, take, drop, replicate}
+use lib.ListN.{take, drop, replicate}
 use Rattle.laws.specs.Choice.{choose}
-use Rattle.words.specs.Zeros.{zeros}
+use Rattle.runs.specs.Zeros.{zeros}
+use Rattle.pieces.specs.Pieces.{limit}
 use Rattle.cipher_numbers.specs.Ciphers.{isDirection}
 use Rattle.cipher.specs.Schedule.{bad, zeroSchedule}
 use Rattle.cipher.specs.declared.Schedule.{Schedule}
@@ -19,10 +20,6 @@ streamOf s d n c h b = record { schedule = s; direction = d; count = n; chain = 
 abbrev pub fresh : Schedule → ℕ → List ℕ → Stream
 fresh s d first = streamOf s d 0 first (replicate 15 0) false
 
--- the most bytes that a stream accepts
-abbrev pub limit : ℕ
-limit = 1048576
-
 -- how many bytes are held
 abbrev pub heldNumber : Stream → ℕ
 heldNumber s = s .count % 16
@@ -30,10 +27,6 @@ heldNumber s = s .count % 16
 -- the held bytes, with a piece behind them
 abbrev pub atHand : Stream → List ℕ → List ℕ
 atHand s piece = take (heldNumber s) (s .held) ++ piece
-
--- fifteen places: these bytes, and zeros
-abbrev pub held15 : List ℕ → List ℕ
-held15 l = l ++ replicate (15 - length l) 0
 
 -- the schedule is bad, the direction isn't 1 or 2, the count is over the limit, an unused held byte isn't zero, or it is closed with bytes held
 unfoldable pub badState : Stream → Bool

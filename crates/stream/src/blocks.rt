@@ -1,8 +1,8 @@
 // The whole blocks among the held bytes and a piece, through the chain.
 use crate::Stream;
-use crate::held::first_block;
+use blocks_lent::Way;
 use cipher_blocks::chain;
-use cipher_blocks::chain::Way;
+use pieces::held::first_block;
 ghost use mathlib.Core.Path.{_≡_};
 ghost use mathlib.Core.Bool.{true};
 ghost use Prim.Native.Nat.{_+_, _*_, _%_, _≤_, _<_};

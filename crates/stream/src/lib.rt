@@ -2,7 +2,6 @@
 use cipher::Schedule;
 
 mod blocks;
-mod held;
 mod state;
 
 ghost use mathlib.Core.Path.{_≡_};
@@ -70,22 +69,17 @@ fn fed_as(answer: u8, written: u64, next: Stream) -> Fed
 
 impl Stream {
     // The most bytes that a stream accepts.
-    pub const LIMIT: u64 = 1048576;
+    pub const LIMIT: u64 = pieces::LIMIT;
 
     // A fresh stream under a schedule, in a direction, from a first block.
     pub fn start(schedule: Schedule, direction: u64, first: &[u8]) -> Started
         ensures { λ r. ⌜ Starts schedule direction (now (first .entry)) r ⌝ }
     {
-        if cipher::bad_schedule(schedule) {
-            return not_started(refusals::BAD_SCHEDULE);
+        let no = state::start_refusal(schedule, direction, first.len());
+        if no != refusals::DONE {
+            return not_started(no);
         }
-        if !cipher_numbers::is_direction(direction) {
-            return not_started(refusals::DIRECTION);
-        }
-        if first.len() != 16 {
-            return not_started(refusals::FIRST_BLOCK_LENGTH);
-        }
-        let block = words::bytes::block_at(first, 0);
+        let block = runs::block_at(first, 0);
         let stream = fresh(schedule, (direction % 256) as u8, block);
         Started {
             answer: refusals::DONE,
@@ -114,7 +108,7 @@ impl Stream {
             next.chain = last;
         }
         let old = next.held;
-        let held = held::left_over(old, kept, piece, n);
+        let held = pieces::held::left_over(old, kept, piece, n);
         next.held = held;
         next.count += piece.len() as u64;
         fed_as(refusals::DONE, (16 * n) as u64, next)

@@ -1,9 +1,10 @@
-// When a state is bad, and when a piece or finish is refused.
+// When a state is bad, and when a start, a piece or finish is refused.
 use crate::Stream;
+use cipher::Schedule;
 ghost use mathlib.Core.Path.{_≡_};
 ghost use Rattle.cipher.specs.Schedule.{bad};
 ghost use Rattle.stream.specs.State.{badState};
-ghost use Rattle.stream.specs.Calls.{pieceRefusal, finishRefusal};
+ghost use Rattle.stream.specs.Calls.{startRefusal, pieceRefusal, finishRefusal};
 
 // Is the state bad? Whether its schedule is, the call has asked, which lends the round keys where they stand.
 pub fn bad_state(bad_schedule: bool, s: Stream) -> bool
@@ -16,15 +17,23 @@ pub fn bad_state(bad_schedule: bool, s: Stream) -> bool
     if !cipher_numbers::is_direction(s.direction as u64) {
         return true;
     }
-    if Stream::LIMIT < s.count {
+    if pieces::LIMIT < s.count {
         return true;
     }
     let n = (s.count % 16) as usize;
     let held = s.held;
-    if !words::bytes::zero_from(&held, n) {
+    if !runs::zero_from(&held, n) {
         return true;
     }
     if s.closed { n != 0 } else { false }
+}
+
+// The refusal of a start, with a first block of n bytes, or 0.
+pub fn start_refusal(schedule: Schedule, direction: u64, n: usize) -> u8
+    ensures { λ r. ⌜ r ≡ startRefusal schedule direction n ⌝ }
+{
+    let undirected = !cipher_numbers::is_direction(direction);
+    refusals::start::first(cipher::bad_schedule(schedule), undirected, n != 16)
 }
 
 // The refusal of a piece of n bytes with that room, or 0.
@@ -32,19 +41,9 @@ pub fn piece_refusal(bad_schedule: bool, s: Stream, n: usize, room: usize) -> u8
     requires { ⌜ «bad_schedule» ≡ bad (s .schedule) ⌝ }
     ensures { λ r. ⌜ r ≡ pieceRefusal s n room ⌝ }
 {
-    if bad_state(bad_schedule, s) {
-        return refusals::BAD_STATE;
-    }
-    if s.closed {
-        return refusals::CLOSED;
-    }
-    if Stream::LIMIT - s.count < n as u64 {
-        return refusals::OVER_LIMIT;
-    }
-    if room < ((s.count % 16) as usize + n) / 16 * 16 {
-        return refusals::NO_ROOM;
-    }
-    refusals::DONE
+    let over = pieces::over_limit(s.count, n);
+    let short = pieces::short_of_room(s.count, n, room);
+    refusals::piece::first(bad_state(bad_schedule, s), s.closed, over, short)
 }
 
 // The refusal of finish, or 0.
@@ -52,16 +51,5 @@ pub fn finish_refusal(bad_schedule: bool, s: Stream) -> u8
     requires { ⌜ «bad_schedule» ≡ bad (s .schedule) ⌝ }
     ensures { λ r. ⌜ r ≡ finishRefusal s ⌝ }
 {
-    let kept = s.count % 16;
-    let bad = bad_state(bad_schedule, s);
-    if bad {
-        return refusals::BAD_STATE;
-    }
-    if s.closed {
-        return refusals::CLOSED;
-    }
-    if kept != 0 {
-        return refusals::BYTES_HELD;
-    }
-    refusals::DONE
+    refusals::finish::first(bad_state(bad_schedule, s), s.closed, s.count % 16 != 0)
 }

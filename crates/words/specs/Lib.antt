@@ -1,3 +1,2 @@
 pub mod KeyLength
 pub mod Word
-pub mod Zeros

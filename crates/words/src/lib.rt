@@ -1,3 +1,3 @@
-// Words and runs of bytes: the small code that the ciphers, the chain and the calls share.
+// Words, and bytes xored: the small code that the ciphers and the chain share.
 pub mod bytes;
 pub mod word;

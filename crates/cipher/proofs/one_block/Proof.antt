@@ -1,7 +1,7 @@
 use borrow.Author.Needs.{needs}
 use mathlib.Core.Path.{sym, _∙_}
 use native.Mathlib.Omega.{arith}
-use Rattle.cipher_blocks.proofs.Each.{given-one}
+use Rattle.blocks_lent.proofs.Each.{given-one}
 use Rattle.cipher.specs.Schedule.{enciphered, deciphered, inDirection}
 use Rattle.cipher.proofs.Answers.{good-length, accepted-block, out-refused, out-done}
 use Rattle.cipher.proofs.one_block.Statement.{statement}

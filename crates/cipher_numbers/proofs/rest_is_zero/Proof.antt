@@ -4,7 +4,7 @@ use Prim.Native.Nat.{ℕ}
 use native.Mathlib.Omega.{arith}
 use borrow.Author.Needs.{needs}
 use lib.ListN.{drop}
-use Rattle.words.specs.Zeros.{zeros}
+use Rattle.runs.specs.Zeros.{zeros}
 use Rattle.cipher_numbers.specs.Ciphers.{Cipher, number}
 use Rattle.cipher_numbers.proofs.Legal.{legal-length, number-1, number-2, number-last}
 use Rattle.cipher_numbers.proofs.rest_is_zero.Statement.{statement}

@@ -5,9 +5,9 @@ use Prim.Native.Nat.{ℕ}
 use native.Mathlib.Omega.{arith}
 use lib.ListN.{length, drop}
 use Rattle.refusals.specs.Refusals as refusal
-use Rattle.cipher_blocks.specs.Ways.{F}
-use Rattle.cipher_blocks.specs.declared.chain.Way.{Way}
-use Rattle.cipher_blocks.proofs.Each.{given-one}
+use Rattle.blocks_lent.specs.Ways.{F}
+use Rattle.blocks_lent.specs.declared.Way.{Way}
+use Rattle.blocks_lent.proofs.Each.{given-one}
 use Rattle.cipher.specs.Schedule.{enciphered, deciphered}
 use Rattle.cipher.specs.Calls.{schedule}
 use Rattle.entry.specs.Entry.{entryRefusal, worked}

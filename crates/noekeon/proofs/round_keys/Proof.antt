@@ -5,7 +5,7 @@ use Prim.Native.Nat.{_≤_, _-_}
 use lib.ListN.{take, replicate}
 use denote.Ref.{now}
 use borrow.Author.Needs.{needs}
-use Rattle.words.proofs.Fill.{fill-next}
+use Rattle.runs.proofs.Fill.{fill-next}
 use Rattle.noekeon.proofs.Padded.{padded}
 use Rattle.noekeon.proofs.round_keys.Statement.{statement}
 use Rattle.noekeon.proofs.round_keys.Tie as tie

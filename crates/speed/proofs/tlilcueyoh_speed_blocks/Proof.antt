@@ -9,8 +9,8 @@ use borrow.Author.Tests.{eq-eqb, ne-eqb, lt-ltb, le-ltb}
 use Rattle.refusals.specs.Refusals as refusal
 use Rattle.cbc.specs.Cbc.{join, whole, blocks}
 use Rattle.cipher_numbers.specs.Ciphers.{isLength}
-use Rattle.cipher_blocks.specs.Ways.{F, each}
-use Rattle.cipher_blocks.specs.declared.chain.Way.{Way}
+use Rattle.blocks_lent.specs.Ways.{F, each}
+use Rattle.blocks_lent.specs.declared.Way.{Way}
 use Rattle.cipher.specs.Schedule.{enciphered, deciphered}
 use Rattle.cipher.specs.Calls.{schedule}
 use Rattle.entry.specs.Entry.{entryRefusal, worked}

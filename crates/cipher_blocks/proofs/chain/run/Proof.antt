@@ -1,6 +1,6 @@
 use mathlib.Core.Path.{refl}
 use borrow.Author.Needs.{needs}
-use Rattle.cipher_blocks.proofs.Tables.{lend-1-forth, lend-1-back, lend-2, lend-none}
+use Rattle.blocks_lent.proofs.Tables.{lend-1-forth, lend-1-back, lend-2, lend-none}
 use Rattle.cipher_blocks.proofs.chain.run.Statement.{statement}
 use Rattle.cipher_blocks.proofs.chain.run.Tie as tie
 

@@ -5,13 +5,14 @@ use Prim.Native.Nat.{ℕ, _+_, _*_, _%_, _/_}
 use native.Mathlib.Omega.{arith}
 use borrow.Author.Needs.{needs}
 use lib.ListN.{length, take, drop}
-use Rattle.words.specs.Zeros.{zeros}
+use Rattle.runs.specs.Zeros.{zeros}
 use Rattle.refusals.specs.Refusals as refusal
 use Rattle.cbc.specs.Cbc.{Chained}
 use Rattle.cbc.proofs.Loop.{running-start, running-end}
 use Rattle.cipher.specs.Schedule.{enciphered, deciphered}
 use Rattle.cipher.proofs.Answers.{good-length}
-use Rattle.stream.specs.State.{streamOf, atHand, held15}
+use Rattle.pieces.specs.Pieces.{held15}
+use Rattle.stream.specs.State.{streamOf, atHand}
 use Rattle.stream.specs.Calls.{pieceRefusal, fedAs}
 use Rattle.stream.specs.declared.Stream.{Stream}
 use Rattle.stream.proofs.Outcomes.{good, AcceptedPiece, accepted-piece, piece-refused, piece-fed, piece-put}

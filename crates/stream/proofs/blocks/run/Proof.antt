@@ -8,7 +8,7 @@ use lib.Seq.{take-all}
 use Rattle.cbc.specs.Cbc.{Chained}
 use Rattle.cipher.specs.Schedule.{enciphered, deciphered}
 use Rattle.stream.specs.declared.Stream.{Stream}
-use Rattle.stream.proofs.Hand.{hand-split}
+use Rattle.pieces.proofs.Hand.{hand-split}
 use Rattle.stream.proofs.blocks.run.Statement.{statement}
 use Rattle.stream.proofs.blocks.run.Tie as tie
 

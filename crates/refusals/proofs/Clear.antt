@@ -1,0 +1,45 @@
+-- Where a call is done, no cause of its refusals applies.
+use mathlib.Core.Path.{_≡_, refl}
+use mathlib.Core.Bool.{Bool, true, false}
+use mathlib.Core.List.{List, [], _∷_}
+use Prim.Native.Nat.{ℕ}
+use lib.Dec.{eqb}
+use borrow.Author.Tests.{eqb-false}
+use Rattle.refusals.specs.Refusals as refusal
+
+-- no cause applies
+abbrev pub Clear : List Bool → Type 0
+Clear [] = Unit
+Clear (b ∷ bs) = (b ≡ false) × Clear bs
+
+abbrev causes : List (Bool × ℕ) → List Bool
+causes [] = []
+causes (c ∷ cs) = c .0 ∷ causes cs
+
+-- each number is another than that of a done call
+abbrev Numbered : List (Bool × ℕ) → Type 0
+Numbered [] = Unit
+Numbered (c ∷ cs) = (eqb (c .1) refusal.done ≡ false) × Numbered cs
+
+clear : (cs : List (Bool × ℕ)) → Numbered cs → refusal.first cs ≡ refusal.done → Clear (causes cs)
+clear [] n e = tt
+clear ((true, k) ∷ cs) n e = absurd (eqb-false k refusal.done (n .0) e)
+clear ((false, k) ∷ cs) n e = (refl, clear cs (n .1) e)
+
+pub set-up-clear : (c l : Bool) → refusal.setUpOrder c l ≡ refusal.done → Clear (c ∷ l ∷ [])
+set-up-clear c l = clear ((c, refusal.unknownCipher) ∷ (l, refusal.keyLength) ∷ []) (refl, (refl, tt))
+
+pub block-clear : (s b r : Bool) → refusal.blockOrder s b r ≡ refusal.done → Clear (s ∷ b ∷ r ∷ [])
+block-clear s b r = clear ((s, refusal.badSchedule) ∷ (b, refusal.blockLength) ∷ (r, refusal.noRoom) ∷ []) (refl, (refl, (refl, tt)))
+
+pub start-clear : (s d b : Bool) → refusal.startOrder s d b ≡ refusal.done → Clear (s ∷ d ∷ b ∷ [])
+start-clear s d b = clear ((s, refusal.badSchedule) ∷ (d, refusal.direction) ∷ (b, refusal.firstBlockLength) ∷ []) (refl, (refl, (refl, tt)))
+
+pub piece-clear : (s e l r : Bool) → refusal.pieceOrder s e l r ≡ refusal.done → Clear (s ∷ e ∷ l ∷ r ∷ [])
+piece-clear s e l r = clear ((s, refusal.badState) ∷ (e, refusal.closed) ∷ (l, refusal.overLimit) ∷ (r, refusal.noRoom) ∷ []) (refl, (refl, (refl, (refl, tt))))
+
+pub finish-clear : (s e h : Bool) → refusal.finishOrder s e h ≡ refusal.done → Clear (s ∷ e ∷ h ∷ [])
+finish-clear s e h = clear ((s, refusal.badState) ∷ (e, refusal.closed) ∷ (h, refusal.bytesHeld) ∷ []) (refl, (refl, (refl, tt)))
+
+pub entry-clear : (c l d b r : Bool) → refusal.entryOrder c l d b r ≡ refusal.done → Clear (c ∷ l ∷ d ∷ b ∷ r ∷ [])
+entry-clear c l d b r = clear ((c, refusal.unknownCipher) ∷ (l, refusal.keyLength) ∷ (d, refusal.direction) ∷ (b, refusal.blockLength) ∷ (r, refusal.noRoom) ∷ []) (refl, (refl, (refl, (refl, (refl, tt)))))

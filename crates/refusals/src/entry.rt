@@ -1,0 +1,30 @@
+// The C entry: the first of its refusals that applies.
+use crate::BLOCK_LENGTH;
+use crate::DIRECTION;
+use crate::DONE;
+use crate::KEY_LENGTH;
+use crate::NO_ROOM;
+use crate::UNKNOWN_CIPHER;
+ghost use mathlib.Core.Path.{_≡_};
+ghost use Rattle.refusals.specs.Refusals.{entryOrder};
+
+pub fn first(cipher: bool, length: bool, dir: bool, block: bool, room: bool) -> u8
+    ensures { λ r. ⌜ r ≡ entryOrder cipher length dir block room ⌝ }
+{
+    if cipher {
+        return UNKNOWN_CIPHER;
+    }
+    if length {
+        return KEY_LENGTH;
+    }
+    if dir {
+        return DIRECTION;
+    }
+    if block {
+        return BLOCK_LENGTH;
+    }
+    if room {
+        return NO_ROOM;
+    }
+    DONE
+}
