@@ -7,7 +7,7 @@ use lib.Dec.{eqb, ltb}
 use lib.ListN.{length}
 use borrow.Author.Tests.{eqb-true, ltb-true, ltb-false}
 use Rattle.laws.specs.Choice.{choose}
-use Rattle.hex.specs.Hex.{firstBad, digits}
+use Rattle.hex_text.specs.Hex.{firstBad, digits}
 use Rattle.hex.specs.Read.{counted, reading}
 use Rattle.hex.specs.declared.Reading.{Reading}
 use Rattle.hex.specs.declared.Reading.the-variants.{Bytes, BadCharacter, OddDigits, NoRoom}

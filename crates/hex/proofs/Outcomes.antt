@@ -5,7 +5,7 @@ use Prim.Native.Nat.{ℕ, _/_, _%_, _≤_, _<_}
 use native.Mathlib.Omega.{arith}
 use lib.ListN.{length, drop}
 use borrow.Author.Tests.{lt-ltb, le-ltb, eq-eqb, ne-eqb}
-use Rattle.hex.specs.Hex.{firstBad, digits, joined}
+use Rattle.hex_text.specs.Hex.{firstBad, digits, joined}
 use Rattle.hex.specs.Read.{reading, written, Read}
 use Rattle.hex.specs.declared.Reading.{Reading}
 use Rattle.hex.specs.declared.Reading.the-variants.{Bytes, BadCharacter, OddDigits, NoRoom}

@@ -8,10 +8,10 @@ use lib.Dec.{eqb, eqb→eq}
 use lib.ListN.{length, getD, drop}
 use Rattle.laws.specs.Bytes.{Byte, Bytes}
 use Rattle.laws.proofs.Places.{each-head, each-tail}
-use Rattle.hex.specs.Hex.{smalls, white, value, bad, digits, joined, Good}
+use Rattle.hex_text.specs.Hex.{smalls, white, value, bad, digits, joined, Good}
 use Rattle.hex.specs.Read.{Read}
 use Rattle.hex.specs.declared.Reading.the-variants as Reading
-use Rattle.hex.proofs.Ranges.{passed, is-false}
+use Rattle.hex_text.proofs.Ranges.{passed, is-false}
 use Rattle.hex.proofs.Outcomes.{bytes}
 
 abbrev digit : ℕ → ℕ

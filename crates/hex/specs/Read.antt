@@ -5,7 +5,7 @@ use Prim.Native.Nat.{ℕ, _/_, _%_}
 use lib.Dec.{eqb, ltb}
 use lib.ListN.{length, drop}
 use Rattle.laws.specs.Choice.{choose}
-use Rattle.hex.specs.Hex.{firstBad, digits, joined}
+use Rattle.hex_text.specs.Hex.{firstBad, digits, joined}
 use Rattle.hex.specs.declared.Reading.{Reading}
 use Rattle.hex.specs.declared.Reading.the-variants.{Bytes, BadCharacter, OddDigits, NoRoom}
 

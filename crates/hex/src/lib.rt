@@ -1,7 +1,5 @@
 // A text of hex digits as bytes: two digits to a byte, the first the higher, white space ignored.
-mod characters;
-mod text;
-
+use hex_text::text;
 ghost use Rattle.hex.specs.Read.{Read};
 
 // What a text was taken for.

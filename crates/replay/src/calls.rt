@@ -1,8 +1,9 @@
 // The calls of a script, by number.
 use crate::Kept;
 use crate::Turn;
-use crate::reading;
-use crate::writing;
+use crate::records;
+use script::reading;
+use script::writing;
 use stream::Stream;
 
 // The script ends here: a call is unknown, too long or cut off.
@@ -20,7 +21,7 @@ fn set_up(kept: Kept) -> Turn {
     }
     let made = cipher::set_up(cipher.value, &key[..n]);
     writing::byte(made.answer);
-    writing::schedule(made.schedule);
+    records::write_schedule(made.schedule);
     let schedule = made.schedule;
     let stream = kept.stream;
     Turn {
@@ -60,7 +61,7 @@ fn start(kept: Kept) -> Turn {
     }
     let begun = Stream::start(kept.schedule, direction.value, &first[..n]);
     writing::byte(begun.answer);
-    writing::stream(begun.stream);
+    records::write_stream(begun.stream);
     let schedule = kept.schedule;
     let stream = begun.stream;
     Turn {
@@ -84,7 +85,7 @@ fn piece(kept: Kept) -> Turn {
     writing::byte(fed.answer);
     writing::eight(fed.written);
     writing::front(&out, room);
-    writing::stream(fed.next);
+    records::write_stream(fed.next);
     let schedule = kept.schedule;
     let stream = fed.next;
     Turn {
@@ -97,7 +98,7 @@ fn finish(kept: Kept) -> Turn {
     let old = kept.stream;
     let done = old.finish();
     writing::byte(done.answer);
-    writing::stream(done.next);
+    records::write_stream(done.next);
     let schedule = kept.schedule;
     let stream = done.next;
     Turn {
@@ -134,7 +135,7 @@ fn c_entry(kept: Kept) -> Turn {
 }
 
 fn keep_schedule(kept: Kept) -> Turn {
-    let r = reading::schedule();
+    let r = records::read_schedule();
     let schedule = r.schedule;
     let stream = kept.stream;
     Turn {
@@ -144,7 +145,7 @@ fn keep_schedule(kept: Kept) -> Turn {
 }
 
 fn keep_stream(kept: Kept) -> Turn {
-    let r = reading::stream();
+    let r = records::read_stream();
     let schedule = kept.schedule;
     let stream = r.stream;
     Turn {

@@ -1,9 +1,10 @@
 // Makes the calls that a script on standard input tells it to, and writes everything that comes back to standard output.
 mod calls;
-mod reading;
-mod writing;
+mod records;
 
 use cipher::Schedule;
+use script::reading;
+use script::writing;
 use stream::Stream;
 
 // The schedule and the stream that are kept from call to call.

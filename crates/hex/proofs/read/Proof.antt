@@ -1,5 +1,5 @@
 use native.Mathlib.Omega.{arith}
-use Rattle.hex.proofs.Texts.{bad-within}
+use Rattle.hex_text.proofs.Texts.{bad-within}
 use Rattle.hex.proofs.Outcomes.{bad-character, odd-digits, no-room, bytes}
 use borrow.Author.Needs.{needs}
 use Rattle.hex.proofs.read.Statement.{statement}
