@@ -4,7 +4,7 @@ use mathlib.Core.List.{List, []}
 use Prim.Native.Nat.{ℕ}
 use borrow.Author.Tests.{eq-eqb, ne-eqb}
 use Rattle.hierocrypt3_tables.specs.code.Tables as hierocrypt3
-use Rattle.e2_steps.specs.Steps as e2
+use Rattle.e2_table.specs.Substitution as e2
 use Rattle.blocks_lent.specs.Ways.{bytesLent, wordsLent, Lent}
 use Rattle.blocks_lent.specs.declared.Way.{Way}
 

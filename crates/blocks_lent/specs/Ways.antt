@@ -6,7 +6,7 @@ use Prim.Native.Nat.{ℕ}
 use lib.Dec.{eqb}
 use Rattle.laws.specs.Choice.{choose}
 use Rattle.hierocrypt3_tables.specs.code.Tables as hierocrypt3
-use Rattle.e2_steps.specs.Steps as e2
+use Rattle.e2_table.specs.Substitution as e2
 use Rattle.cipher_numbers.specs.Ciphers.{number, isLength}
 use Rattle.blocks_lent.specs.declared.Way.{Way}
 

@@ -32,7 +32,7 @@ pub fn run(keys: &[u8; 288], way: Way, input: &[u8], out: &mut [u8], n: usize)
         return;
     }
     if way.cipher == E2 {
-        let sbox = e2_steps::substitution::table();
+        let sbox = e2_table::table();
         run_with(&sbox, &none, keys, way, input, out, n);
         return;
     }

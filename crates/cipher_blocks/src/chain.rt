@@ -37,7 +37,7 @@ pub fn run(
         return run_with(&unsbox, &table, keys, way, chain, first, rest, out, n);
     }
     if way.cipher == E2 {
-        let sbox = e2_steps::substitution::table();
+        let sbox = e2_table::table();
         return run_with(&sbox, &none, keys, way, chain, first, rest, out, n);
     }
     let nothing = [0u8; 0];

@@ -1,6 +1,6 @@
 // E2 (001, with 01's repairs): one block both ways. A caller that works many blocks copies the table of s once, and lends it to each of them.
 ghost use mathlib.Core.Path.{_≡_};
-ghost use Rattle.e2_steps.specs.Steps.{sTable};
+ghost use Rattle.e2_table.specs.Substitution.{sTable};
 ghost use Rattle.e2.specs.Block.{encipher, decipher};
 
 mod block;

@@ -1,13 +1,13 @@
 -- E2's transformations: 001, in its names and order. 01 ('E2') repairs its print in places; each is named where it is.
 use mathlib.Core.List.{List, [], _∷_}
-use Prim.Native.Nat.{ℕ, _+_, _*_, _%_, _^_}
+use Prim.Native.Nat.{ℕ, _*_, _%_, _^_}
 use lib.Bits.{bitXor, bitOr}
 use lib.ListN.{getD}
 use Rattle.laws.specs.Places.{tab, layer, permute}
 use Rattle.laws.specs.Bytes.{wordsOf, bytesOf}
 use Rattle.laws.specs.Matrix.{bitMatrix}
-use Rattle.laws.specs.Field.{power}
 use Rattle.laws.specs.Modular.{oddInverse}
+use Rattle.e2_table.specs.Substitution.{s}
 
 -- ---- X ⊗ Y and X ⊘ Y, word by word modulo 2^32, each word of Y made odd by y ∨ 1
 -- z to the 2^31 - 1
@@ -45,17 +45,9 @@ BP⁻ = permute 0 fromBP⁻
 unfoldable pub BRL : List ℕ → List ℕ
 BRL = permute 0 fromBRL
 
--- ---- S: s(x) = 97 x^127 + 225, the power in the field of x^8 + x^4 + x^3 + x + 1, the rest modulo 256. 01: this rule decides over 001's table 1, which
--- agrees with it
-unfoldable pub s : ℕ → ℕ
-s x = (97 * power 0x11b x 127 + 225) % 2 ^ 8
-
+-- ---- S: s at each byte. s is in e2_table/Substitution
 unfoldable pub S : List ℕ → List ℕ
 S = layer 8 0 (λ j. s)
-
--- s at 0, 1, .. 255
-unfoldable pub sTable : List ℕ
-sTable = tab 256 s
 
 -- ---- P. 01 repairs the last row, which 001 prints as 10111000
 abbrev pub rowsP : List (List ℕ)

@@ -5,10 +5,11 @@ ghost use lib.ListN.{length};
 ghost use Rattle.laws.specs.Bytes.{xorL};
 ghost use Rattle.laws.specs.Places.{part};
 ghost use Rattle.words.specs.Word.{WordOf};
-ghost use Rattle.e2_steps.specs.Steps as steps;
-ghost use Rattle.e2_steps.specs.Steps.{sTable, BRL, S, P};
+ghost use Rattle.e2_table.specs.Substitution as substitution;
+ghost use Rattle.e2_table.specs.Substitution.{sTable};
+ghost use Rattle.e2_steps.specs.Steps.{BRL, S, P};
 ghost use Rattle.e2_steps.specs.code.Layout.{pairBytes};
-use crate::substitution::s_byte;
+use e2_table::s_byte;
 use words::word::byte0;
 use words::word::byte1;
 use words::word::byte2;
@@ -36,7 +37,7 @@ pub fn load(bytes: &[u8], at: usize) -> Pair
 // s at each byte of a word.
 fn s_word(table: &[u8], w: u32) -> u32
     requires { ⌜ now table ≡ sTable ⌝ }
-    ensures { λ r. ⌜ WordOf (steps.s (w / 2 ^ 24)) (steps.s (w / 2 ^ 16 % 2 ^ 8)) (steps.s (w / 2 ^ 8 % 2 ^ 8)) (steps.s (w % 2 ^ 8)) r ⌝ }
+    ensures { λ r. ⌜ WordOf (substitution.s (w / 2 ^ 24)) (substitution.s (w / 2 ^ 16 % 2 ^ 8)) (substitution.s (w / 2 ^ 8 % 2 ^ 8)) (substitution.s (w % 2 ^ 8)) r ⌝ }
 {
     word(
         s_byte(table, byte0(w)),

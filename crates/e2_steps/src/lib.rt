@@ -1,4 +1,3 @@
-// E2's steps (001): ⊗ and ⊘ on a block, s and S, and those on half a block.
+// E2's steps (001): ⊗ and ⊘ on a block, and S, P and BRL on half of one.
 pub mod half;
 pub mod quad;
-pub mod substitution;

@@ -10,7 +10,8 @@ use Rattle.laws.specs.Matrix.{pick}
 use Rattle.laws.specs.Field.{power}
 use Rattle.laws.proofs.Places.{each-tab}
 use Rattle.laws.proofs.Matrix.{matrix-words, pick-adds, pick-lt}
-use Rattle.e2_steps.specs.Steps.{s, S, rowsP, P}
+use Rattle.e2_table.specs.Substitution.{s}
+use Rattle.e2_steps.specs.Steps.{S, rowsP, P}
 
 s-byte : (x : ℕ) → Byte (s x)
 unfolding s

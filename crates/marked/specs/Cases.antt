@@ -5,6 +5,7 @@ use Prim.Native.Nat.{ℕ}
 use Rattle.laws.specs.Places.{tab}
 use Rattle.noekeon.specs.Noekeon.{S, θ, γ, zeroKey}
 use Rattle.noekeon.specs.declared.Quad.{Quad}
+use Rattle.e2_table.specs.Substitution as e2-table
 use Rattle.e2_steps.specs.Steps as e2
 use Rattle.hierocrypt3_tables.specs.Operations as hierocrypt3
 use Rattle.hierocrypt3_keys.specs.Operations as hierocrypt3-keys
@@ -34,8 +35,8 @@ unfoldable pub cases : List (Name × List ℕ × List ℕ)
 cases =
     (C1, hierocrypt3.s 0x00 ∷ [], 0x07 ∷ [])
     ∷ (C2, hierocrypt3.s 0x01 ∷ [], 0xfc ∷ [])
-    ∷ (C3, e2.s 0 ∷ [], 225 ∷ [])
-    ∷ (C4, e2.s 1 ∷ [], 66 ∷ [])
+    ∷ (C3, e2-table.s 0 ∷ [], 225 ∷ [])
+    ∷ (C4, e2-table.s 1 ∷ [], 66 ∷ [])
     ∷ (C5, e2.inverse 3 ∷ [], 2863311531 ∷ [])
     ∷ (C6, e2.BRL (tab 8 (λ j. j)), 1 ∷ 2 ∷ 3 ∷ 4 ∷ 5 ∷ 6 ∷ 7 ∷ 0 ∷ [])
     ∷ (C7, e2.BP (tab 16 (λ j. j)), 0 ∷ 5 ∷ 10 ∷ 15 ∷ 4 ∷ 9 ∷ 14 ∷ 3 ∷ 8 ∷ 13 ∷ 2 ∷ 7 ∷ 12 ∷ 1 ∷ 6 ∷ 11 ∷ [])

@@ -1,7 +1,7 @@
 -- `half::s_word`: s of each byte.
 use mathlib.Core.Path.{ap, _∙_, transport}
 use Rattle.words.specs.Word.{WordOf}
-use Rattle.e2_steps.specs.Steps.{s}
+use Rattle.e2_table.specs.Substitution.{s}
 use borrow.Author.Needs.{needs}
 use Rattle.e2_steps.proofs.half.s_word.Statement.{statement}
 use Rattle.e2_steps.proofs.half.s_word.Tie as tie

@@ -10,7 +10,7 @@ use Rattle.laws.proofs.Places.{length-tab, tab-is, getD-tab}
 use Rattle.laws.proofs.Power.{powerBits}
 use Rattle.laws.proofs.Fields.{power-11b}
 use Rattle.laws.proofs.Table.{every, table-at}
-use Rattle.e2_steps.specs.Steps.{s, sTable}
+use Rattle.e2_table.specs.Substitution.{s, sTable}
 
 unfoldable pub right : ℕ → ℕ → Bool
 right x y = eqb y ((97 * powerBits 0x11b 8 x 127 + 225) % 2 ^ 8)

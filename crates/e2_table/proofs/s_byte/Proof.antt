@@ -1,13 +1,13 @@
--- `substitution::s_byte`: the lent table has 256 places, and what it holds at x is s x.
+-- `s_byte`: the lent table has 256 places, and what it holds at x is s x.
 use mathlib.Core.List.{List}
 use mathlib.Core.Path.{_≡_, ap, _∙_}
 use Prim.Native.Nat.{ℕ, _<_}
 use native.Mathlib.Omega.{arith}
 use lib.ListN.{length, getD}
 use borrow.Author.Needs.{needs}
-use Rattle.e2_steps.proofs.TableRule.{length-sTable, sTable-at}
-use Rattle.e2_steps.proofs.substitution.s_byte.Statement.{statement}
-use Rattle.e2_steps.proofs.substitution.s_byte.Tie as tie
+use Rattle.e2_table.proofs.TableRule.{length-sTable, sTable-at}
+use Rattle.e2_table.proofs.s_byte.Statement.{statement}
+use Rattle.e2_table.proofs.s_byte.Tie as tie
 
 shared-slice-read-result : tie.Need-shared-slice-read-result
 shared-slice-read-result c =

@@ -1,7 +1,7 @@
 // E2's substitution (001, 's' and its table 1): the table, and s of one byte. The table is copied once and lent down: a constant that is
 // read where it is used is written out anew each time.
 ghost use mathlib.Core.Path.{_≡_};
-ghost use Rattle.e2_steps.specs.Steps.{s, sTable};
+ghost use Rattle.e2_table.specs.Substitution.{s, sTable};
 
 const SBOX: [u8; 256] = [
     225,
