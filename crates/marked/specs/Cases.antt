@@ -3,8 +3,9 @@ use mathlib.Core.Path.{_≡_}
 use mathlib.Core.List.{List, [], _∷_}
 use Prim.Native.Nat.{ℕ}
 use Rattle.laws.specs.Places.{tab}
-use Rattle.noekeon.specs.Noekeon.{S, θ, γ, zeroKey}
-use Rattle.noekeon.specs.declared.Quad.{Quad}
+use Rattle.noekeon_steps.specs.declared.Quad.{Quad}
+use Rattle.noekeon_steps.specs.Steps.{S, θ, γ}
+use Rattle.noekeon.specs.Noekeon.{zeroKey}
 use Rattle.e2_table.specs.Substitution as e2-table
 use Rattle.e2_steps.specs.Steps as e2
 use Rattle.hierocrypt3_tables.specs.Operations as hierocrypt3

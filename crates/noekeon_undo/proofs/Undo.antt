@@ -20,8 +20,9 @@ use Rattle.laws.proofs.Sums.{Sum, solve}
 use Rattle.laws.proofs.Sums.Sum.{at, zer, op, _⊕_}
 use Rattle.laws.proofs.Rounds.{steps-keep, mirrored-undo}
 use Rattle.laws.proofs.Inverse.{carried}
-use Rattle.noekeon.specs.declared.Quad.{Quad}
-use Rattle.noekeon.specs.Noekeon.{S, θ, γ, π1, π2, round, cipher, zeroKey, load, store, encipher, decipher}
+use Rattle.noekeon_steps.specs.declared.Quad.{Quad}
+use Rattle.noekeon_steps.specs.Steps.{S, θ, γ, π1, π2}
+use Rattle.noekeon.specs.Noekeon.{round, cipher, zeroKey, load, store, encipher, decipher}
 
 -- ---- four words of 32 bits
 abbrev pub wordList : Quad → List ℕ

@@ -1,6 +1,7 @@
 -- `block_with`: the block loaded, worked and stored.
 use mathlib.Core.Path.{ap, _∙_}
-use Rattle.noekeon.specs.Noekeon.{S, cipher, store}
+use Rattle.noekeon_steps.specs.Steps.{S}
+use Rattle.noekeon.specs.Noekeon.{cipher, store}
 use borrow.Author.Needs.{needs}
 use Rattle.noekeon.proofs.block_with.Statement.{statement}
 use Rattle.noekeon.proofs.block_with.Tie as tie

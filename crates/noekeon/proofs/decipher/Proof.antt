@@ -1,7 +1,8 @@
 -- `decipher`: the cipher under θ(0, K).
 use mathlib.Core.Path.{ap, _∙_}
-use Rattle.noekeon.specs.Noekeon.{S, cipher, load, store, decipher}
-use Rattle.noekeon.specs.declared.Quad.{Quad}
+use Rattle.noekeon_steps.specs.declared.Quad.{Quad}
+use Rattle.noekeon_steps.specs.Steps.{S}
+use Rattle.noekeon.specs.Noekeon.{cipher, load, store, decipher}
 use borrow.Author.Needs.{needs}
 use Rattle.noekeon.proofs.decipher.Statement.{statement}
 use Rattle.noekeon.proofs.decipher.Tie as tie

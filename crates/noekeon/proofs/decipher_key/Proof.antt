@@ -1,6 +1,7 @@
 -- `decipher_key`: θ with the key 0 on K.
 use mathlib.Core.Path.{ap, _∙_}
-use Rattle.noekeon.specs.Noekeon.{S, θ, zeroKey}
+use Rattle.noekeon_steps.specs.Steps.{S, θ}
+use Rattle.noekeon.specs.Noekeon.{zeroKey}
 use borrow.Author.Needs.{needs}
 use Rattle.noekeon.proofs.decipher_key.Statement.{statement}
 use Rattle.noekeon.proofs.decipher_key.Tie as tie

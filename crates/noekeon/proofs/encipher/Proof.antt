@@ -1,7 +1,8 @@
 -- `encipher`: the cipher under K.
 use mathlib.Core.Path.{ap, _∙_}
-use Rattle.noekeon.specs.Noekeon.{S, cipher, load, store, encipher}
-use Rattle.noekeon.specs.declared.Quad.{Quad}
+use Rattle.noekeon_steps.specs.declared.Quad.{Quad}
+use Rattle.noekeon_steps.specs.Steps.{S}
+use Rattle.noekeon.specs.Noekeon.{cipher, load, store, encipher}
 use borrow.Author.Needs.{needs}
 use Rattle.noekeon.proofs.encipher.Statement.{statement}
 use Rattle.noekeon.proofs.encipher.Tie as tie

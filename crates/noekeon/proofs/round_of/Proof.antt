@@ -1,6 +1,7 @@
 -- `round_of`: the four steps one after the other.
 use mathlib.Core.Path.{ap, _∙_}
-use Rattle.noekeon.specs.Noekeon.{γ, π1, π2, round}
+use Rattle.noekeon_steps.specs.Steps.{γ, π1, π2}
+use Rattle.noekeon.specs.Noekeon.{round}
 use borrow.Author.Needs.{needs}
 use Rattle.noekeon.proofs.round_of.Statement.{statement}
 use Rattle.noekeon.proofs.round_of.Tie as tie

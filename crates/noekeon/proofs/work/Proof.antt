@@ -3,7 +3,8 @@ use mathlib.Core.Path.{ap, _∙_}
 use Prim.Native.Nat.{_≤_, _-_}
 use borrow.Author.Needs.{needs}
 use Rattle.laws.proofs.Rounds.{Stepped, loops, steps-end}
-use Rattle.noekeon.specs.Noekeon.{S, θ, round, cipher}
+use Rattle.noekeon_steps.specs.Steps.{S, θ}
+use Rattle.noekeon.specs.Noekeon.{round, cipher}
 use Rattle.noekeon.proofs.work.Statement.{statement}
 use Rattle.noekeon.proofs.work.Tie as tie
 

@@ -2,11 +2,11 @@
 use mathlib.Core.Path.{ap, _∙_}
 use Prim.Native.Nat.{ℕ}
 use lib.Bits.{bitXor}
-use Rattle.noekeon.specs.Noekeon.{S}
-use Rattle.noekeon.specs.declared.Quad.{Quad}
+use Rattle.noekeon_steps.specs.Steps.{S}
+use Rattle.noekeon_steps.specs.declared.Quad.{Quad}
 use borrow.Author.Needs.{needs}
-use Rattle.noekeon.proofs.theta.Statement.{statement}
-use Rattle.noekeon.proofs.theta.Tie as tie
+use Rattle.noekeon_steps.proofs.theta.Statement.{statement}
+use Rattle.noekeon_steps.proofs.theta.Tie as tie
 
 -- the result, by what the two calls give
 abbrev given : Quad → Quad → ℕ → ℕ → Quad
