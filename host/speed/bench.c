@@ -1,4 +1,4 @@
-/* Measures every work of works.h for each cipher and direction, a line WORK NAME AMOUNT for each, an amount being that
+/* Measures every work of works.h, for each cipher and direction and on a card, a line WORK NAME AMOUNT for each, an amount being that
    of a block. `bench times`: the shortest of many runs in turn, in nanoseconds. `bench counts`, which callgrind runs:
    a dump for each, called WORK NAME BLOCKS. host/bench makes its lines of both. */
 #define _POSIX_C_SOURCE 199309L
@@ -28,26 +28,26 @@ static void shortest(double *best, const struct work *work, int cipher, int dire
         *best = took;
 }
 
-static void times(const char *name, int cipher, int direction)
+static void times(const char *name, const struct work *some, int n, int cipher, int direction)
 {
     double best[WORKS];
-    for (int w = 0; w < WORKS; w++)
+    for (int w = 0; w < n; w++)
         best[w] = 1e12;
     for (int i = 0; i < REPEATS; i++)
-        for (int w = 0; w < WORKS; w++)
-            if (w != OUR_BYTES || i % BYTES_EVERY == 0)
-                shortest(&best[w], &works[w], cipher, direction);
-    for (int w = 0; w < WORKS; w++)
-        printf("%s %s %.3f\n", works[w].name, name, best[w]);
+        for (int w = 0; w < n; w++)
+            if (&some[w] != &works[OUR_BYTES] || i % BYTES_EVERY == 0)
+                shortest(&best[w], &some[w], cipher, direction);
+    for (int w = 0; w < n; w++)
+        printf("%s %s %.3f\n", some[w].name, name, best[w]);
 }
 
-static void counts(const char *name, int cipher, int direction)
+static void counts(const char *name, const struct work *some, int n, int cipher, int direction)
 {
     char title[64];
-    for (int w = 0; w < WORKS; w++) {
-        snprintf(title, sizeof title, "%s %s %d", works[w].name, name, works[w].blocks);
+    for (int w = 0; w < n; w++) {
+        snprintf(title, sizeof title, "%s %s %d", some[w].name, name, some[w].blocks);
         CALLGRIND_ZERO_STATS;
-        works[w].run(cipher, direction);
+        some[w].run(cipher, direction);
         CALLGRIND_DUMP_STATS_AT(title);
     }
 }
@@ -60,13 +60,15 @@ int main(int argc, char **argv)
         fprintf(stderr, "bench times | counts\n");
         return 2;
     }
+    void (*measure)(const char *, const struct work *, int, int, int) = strcmp(argv[1], "times") == 0 ? times : counts;
     make_ready();
     hold_to_each_other();
     for (int cipher = HIEROCRYPT3; cipher <= NOEKEON; cipher++)
         for (int direction = ENCIPHER; direction <= DECIPHER; direction++) {
             char name[32];
             snprintf(name, sizeof name, "%s-%s", ciphers[cipher], ways[direction]);
-            (strcmp(argv[1], "times") == 0 ? times : counts)(name, cipher, direction);
+            measure(name, works, WORKS, cipher, direction);
         }
+    measure("card", card_works, CARD_WORKS, 0, 0);
     return 0;
 }

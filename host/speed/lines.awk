@@ -24,4 +24,7 @@ END {
         line("chain-", names[i], "cbc", "blocks", 1)
         line("piece-", names[i], "bytes", "blocks", 16)
     }
+    line("good-", "card", "good", "c-good")
+    line("find-", "card", "find", "c-find")
+    line("pass-", "card", "find", "good", 1)
 }

@@ -1,6 +1,7 @@
 /* See works.h. */
 #include "works.h"
 #include "../tlilcueyoh.h"
+#include "card.h"
 
 #include <stdio.h>
 #include <stdlib.h>
@@ -15,10 +16,14 @@ uint64_t tlilcueyoh_speed_bytes(uint64_t cipher, uint64_t direction, const uint8
                                 const uint8_t *first, size_t first_len, const uint8_t *in, size_t in_len,
                                 uint8_t *out, size_t out_len);
 
+uint64_t tlilcueyoh_speed_good(const uint8_t *card, size_t card_len);
+uint64_t tlilcueyoh_speed_find(const uint8_t *card, size_t card_len, uint64_t recipe, uint64_t segment);
+
 static const struct yardstick *const yardsticks[] = {
     NULL, &hierocrypt3_yardstick, &e2_yardstick, &noekeon_yardstick,
 };
 static uint8_t key[16], first[16], in[BYTES], out[BYTES], other[BYTES];
+static uint8_t card[16 * SLOTS];
 
 static void done(uint64_t answer)
 {
@@ -65,6 +70,43 @@ static void our_bytes(int cipher, int direction)
     done(tlilcueyoh_speed_bytes(cipher, direction, key, 16, first, 16, in, BYTES, out, BYTES));
 }
 
+static void yes(uint64_t answer, uint64_t wanted)
+{
+    if (answer == wanted)
+        return;
+    fprintf(stderr, "bench: a full card gives %d\n", (int)answer);
+    exit(1);
+}
+
+static void our_good(int cipher, int direction)
+{
+    (void)cipher, (void)direction;
+    yes(tlilcueyoh_speed_good(card, sizeof card), 1);
+}
+
+static void c_good(int cipher, int direction)
+{
+    (void)cipher, (void)direction;
+    yes((uint64_t)card_good(card, sizeof card), 1);
+}
+
+/* The last slot's pair, so that the search is a whole pass. */
+static void our_find(int cipher, int direction)
+{
+    (void)cipher, (void)direction;
+    yes(tlilcueyoh_speed_find(card, sizeof card, SLOTS / 32, 32), 16);
+}
+
+static void c_find(int cipher, int direction)
+{
+    (void)cipher, (void)direction;
+    yes(card_find(card, sizeof card, SLOTS / 32, 32), 16);
+}
+
+const struct work card_works[CARD_WORKS] = {
+    { "good", our_good, 1 }, { "c-good", c_good, 1 }, { "find", our_find, 1 }, { "c-find", c_find, 1 },
+};
+
 const struct work works[WORKS] = {
     { "blocks", our_blocks, BLOCKS }, { "c-blocks", c_blocks, BLOCKS },
     { "cbc", our_cbc, BLOCKS }, { "c-cbc", c_cbc, BLOCKS },
@@ -81,6 +123,10 @@ void make_ready(void)
     memcpy(first, in + 32, 16);
     for (int cipher = HIEROCRYPT3; cipher <= NOEKEON; cipher++)
         yardsticks[cipher]->make_ready();
+    for (int i = 0; i < SLOTS; i++) {
+        const uint8_t record[16] = { 0, (uint8_t)(1 + i / 32), (uint8_t)(1 + i % 32), 2, 0x2e, 0xe0, 2, 0x58, 0, 30 };
+        memcpy(card + 16 * i, record, 16);
+    }
 }
 
 static void hold(int ours, int c, int cipher, int direction)

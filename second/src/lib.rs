@@ -1,10 +1,13 @@
-//! The second program: document 01 once more, by another road than a fast program
-//! would take, so that its answers can be held against those of the product.
+//! The second program: document 01 and request 1 of document 02 once more, by another
+//! road than a fast program would take, so that its answers can be held against those
+//! of the product.
 
 pub mod bytes;
+pub mod card;
 pub mod cbc;
 pub mod cipher;
 pub mod e2;
+pub mod edges;
 pub mod entry;
 pub mod field;
 pub mod hierocrypt3;

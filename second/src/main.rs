@@ -1,6 +1,8 @@
-//! The command: writes the replay files, interprets a script, or checks the files.
+//! The command: writes the replay files, interprets a script, checks the files, or
+//! prints edge cases.
 //! Follows the page on replay.
 
+use second::edges;
 use second::replay::{run, script, Extent};
 use std::io::{self, Read, Write};
 use std::path::Path;
@@ -8,7 +10,8 @@ use std::process::ExitCode;
 
 const USAGE: &str = "usage: second replay DIR [blocks]
        second check DIR [blocks]
-       second run < SCRIPT > ANSWERS";
+       second run < SCRIPT > ANSWERS
+       second edges cards";
 
 fn main() -> ExitCode {
     let arguments: Vec<String> = std::env::args().skip(1).collect();
@@ -19,6 +22,7 @@ fn main() -> ExitCode {
         ["check", directory] => check_files(directory, Extent::Whole),
         ["check", directory, "blocks"] => check_files(directory, Extent::Blocks),
         ["run"] => interpret(),
+        ["edges", "cards"] => write_out(edges::cards().as_bytes()),
         _ => {
             eprintln!("{USAGE}");
             return ExitCode::from(2);
@@ -71,7 +75,11 @@ fn interpret() -> Result<(), String> {
     io::stdin()
         .read_to_end(&mut script)
         .map_err(|error| format!("The script can't be read: {error}."))?;
+    write_out(&run(&script))
+}
+
+fn write_out(answers: &[u8]) -> Result<(), String> {
     io::stdout()
-        .write_all(&run(&script))
+        .write_all(answers)
         .map_err(|error| format!("The answers can't be written: {error}."))
 }

@@ -1,5 +1,5 @@
 //! The answer of a call: done, or a refusal with its number and name.
-//! Follows document 01, 'Refusal numbers'.
+//! Follows document 01, 'Refusal numbers', and document 02, request 1.
 
 #[derive(Clone, Copy, Debug, PartialEq, Eq)]
 #[repr(u8)]
@@ -16,6 +16,9 @@ pub enum Answer {
     NoRoom = 9,
     BytesHeld = 10,
     BlockLength = 11,
+    BadCard = 12,
+    BadRecord = 13,
+    NoSlot = 14,
 }
 
 impl Answer {

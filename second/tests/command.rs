@@ -1,6 +1,8 @@
-//! The command from outside: its exit codes, and the files it writes and checks.
+//! The command from outside: its exit codes, the files it writes and checks, and what
+//! it prints.
 //! Follows the page on replay.
 
+use second::edges;
 use second::replay::{run, script, Extent};
 use std::io::Write;
 use std::path::PathBuf;
@@ -91,6 +93,14 @@ fn run_interprets_standard_input() {
 }
 
 #[test]
+fn edges_prints_the_edge_cases() {
+    let output = second(&["edges", "cards"]);
+    assert!(output.status.success());
+    assert_eq!(output.stdout, edges::cards().into_bytes());
+    assert!(output.stderr.is_empty());
+}
+
+#[test]
 fn anything_else_is_answered_with_the_usage() {
     for arguments in [
         &[][..],
@@ -98,6 +108,10 @@ fn anything_else_is_answered_with_the_usage() {
         &["check"],
         &["run", "here"],
         &["replay", "here", "streams"],
+        &["replay", "here", "cards"],
+        &["edges"],
+        &["edges", "blocks"],
+        &["edges", "cards", "here"],
         &["help"],
     ] {
         let output = second(arguments);

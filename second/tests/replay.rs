@@ -55,7 +55,15 @@ fn the_parts_hold_the_calls_they_are_for() {
         |script: &[u8]| -> BTreeSet<u8> { calls(script).iter().map(Call::number).collect() };
     let blocks = script(Extent::Blocks);
     assert_eq!(numbers(&blocks), BTreeSet::from([1, 2, 3, 7, 8]));
-    assert_eq!(numbers(&script(Extent::Whole)), BTreeSet::from_iter(1..=9));
+    let whole = script(Extent::Whole);
+    assert_eq!(numbers(&whole), BTreeSet::from_iter(1..=0x0C));
+}
+
+#[test]
+fn the_cards_part_stands_behind_all_else() {
+    let calls = calls(&script(Extent::Whole));
+    let of_cards: Vec<bool> = calls.iter().map(|call| call.number() > 9).collect();
+    assert!(of_cards.windows(2).all(|two| two[0] <= two[1]));
 }
 
 #[test]
@@ -76,8 +84,21 @@ fn every_answer_of_every_call_occurs() {
         (5, BTreeSet::from([0, 6, 7, 8, 9])),
         (6, BTreeSet::from([0, 6, 7, 10])),
         (7, BTreeSet::from([0, 1, 2, 4, 9, 11])),
+        (0x0A, BTreeSet::from([0, 1])),
+        (0x0B, BTreeSet::from([0])),
+        (0x0C, BTreeSet::from([0, 12, 13, 14])),
     ]);
     assert_eq!(answers, expected);
+}
+
+/// The first byte of a find is of its length, so both lengths are looked for here.
+#[test]
+fn finds_with_and_without_a_slot_occur() {
+    let calls = calls(&script(Extent::Whole)).into_iter();
+    let finds = calls.filter(|call| call.number() == 0x0B);
+    let mut kept = Kept::ZERO;
+    let lengths: BTreeSet<usize> = finds.map(|call| kept.make(call).len()).collect();
+    assert_eq!(lengths, BTreeSet::from([4, 20]));
 }
 
 fn hex(text: &str) -> Vec<u8> {
@@ -172,6 +193,68 @@ fn the_entry_byte_by_byte() {
     assert_eq!(run(&hex(&script)), expected.concat());
 }
 
+const SLOT: &str = "000101022EE00258001E000000000000";
+const EMPTY: &str = "00000000000000000000000000000000";
+
+#[test]
+fn is_good_byte_by_byte() {
+    let script = format!("0A 00000010 {SLOT} 0A 00000001 00 0A 00000000");
+    assert_eq!(run(&hex(&script)), [1, 0, 1]);
+}
+
+#[test]
+fn find_byte_by_byte() {
+    let script = format!(
+        "0B 00000020 {EMPTY} {SLOT} 0000000000000001 0000000000000001
+         0B 00000020 {EMPTY} {SLOT} 0000000000000000 0000000000000000
+         0B 00000010 {SLOT} 0000000000010001 0000000000000001
+         0B 00000020 {SLOT} {SLOT} 0000000000000001 0000000000000001
+         0B 00000000 0000000000000001 0000000000000001"
+    );
+    let expected = hex(&format!(
+        "00000010 {SLOT} 00000000 00000000 00000000 00000000"
+    ));
+    assert_eq!(run(&hex(&script)), expected);
+}
+
+#[test]
+fn put_byte_by_byte() {
+    let script = format!(
+        "0C 00000020 {EMPTY} {EMPTY} 00000010 {SLOT}
+         0C 00000003 AABBCC 00000010 {SLOT}
+         0C 00000010 {SLOT} 00000000
+         0C 00000000 00000010 {SLOT}"
+    );
+    let expected = hex(&format!("00 {SLOT} {EMPTY} 0C AABBCC 0D {SLOT} 0E"));
+    assert_eq!(run(&hex(&script)), expected);
+}
+
+#[test]
+fn a_card_of_4112_bytes_can_be_said() {
+    let card = vec![0; 4112];
+    let record = hex(SLOT);
+    let calls = [
+        Call::IsGood { card: card.clone() },
+        Call::Put {
+            card: card.clone(),
+            record,
+        },
+    ];
+    let script: Vec<u8> = calls.iter().flat_map(Call::bytes).collect();
+    assert_eq!(run(&script), [&[0, 12][..], &card].concat());
+}
+
+#[test]
+fn calls_on_cards_leave_what_is_kept() {
+    let of_cards = format!("0A 00000000 0B 00000000 {EMPTY} 0C 00000010 {EMPTY} 00000010 {SLOT}");
+    let block = hex(&format!("02 00000010 {BLOCK} 00000010 00"));
+    let without = run(&[set_up_call(), block.clone()].concat());
+    let with = run(&[set_up_call(), hex(&of_cards), block].concat());
+    let between = hex(&format!("01 00000000 00 {SLOT}"));
+    let expected = [&without[..291], &between, &without[291..]].concat();
+    assert_eq!(with, expected);
+}
+
 #[test]
 fn refused_records_are_kept_too() {
     let script = [
@@ -204,7 +287,7 @@ fn an_empty_script_has_no_answers() {
 
 #[test]
 fn an_unknown_call_ends_with_ff() {
-    for number in [0, 10, 11, 0x7F, 0xFF] {
+    for number in [0, 0x0D, 0x0E, 0x7F, 0xFF] {
         let script = [set_up_call(), vec![number], set_up_call()].concat();
         let answers = run(&script);
         assert_eq!(answers.len(), 292);
@@ -229,6 +312,19 @@ fn a_length_over_8192_ends_with_ff() {
     assert_eq!(run(&long_buffer), [0xFF]);
     let longest = hex("05 FFFFFFFF");
     assert_eq!(run(&longest), [0xFF]);
+    for (before, behind) in [
+        ("0A", ""),
+        ("0B", EMPTY),
+        ("0C", "00000000"),
+        ("0C 00000000", ""),
+    ] {
+        let with = |length: usize| {
+            let string = [hex(&format!("{length:08X}")), vec![0; length]];
+            [hex(before), string.concat(), hex(behind)].concat()
+        };
+        assert_ne!(run(&with(8192)).last(), Some(&0xFF));
+        assert_eq!(run(&with(8193)), [0xFF]);
+    }
 }
 
 #[test]
@@ -246,6 +342,11 @@ fn a_script_cut_anywhere_within_a_call_ends_with_ff() {
         )),
         schedule,
         stream,
+        hex(&format!("0A 00000010 {SLOT}")),
+        hex(&format!(
+            "0B 00000010 {SLOT} 0000000000000001 0000000000000001"
+        )),
+        hex(&format!("0C 00000010 {EMPTY} 00000010 {SLOT}")),
     ];
     for call in calls {
         assert_ne!(run(&call), [0xFF]);

@@ -1,9 +1,12 @@
 -- No second answer meets a call's promise: two results, and two outputs left behind, of which it holds are one.
 use mathlib.Core.Path.{_≡_, sym, ap, _∙_}
+use mathlib.Core.Bool.{Bool}
 use mathlib.Core.List.{List}
 use Prim.Native.Nat.{ℕ}
+use denote.Ref.{RefT, ptr, now}
 use Rattle.hex.specs.Read.{Read}
 use Rattle.hex.specs.declared.Reading.{Reading}
+use Rattle.card.specs.Promises.{Judges, Finds, Puts}
 use Rattle.cipher.specs.Promises.{SetsUp, WorksBlock}
 use Rattle.cipher.specs.declared.Schedule.{Schedule}
 use Rattle.cipher.specs.declared.SetUp.{SetUp}
@@ -14,6 +17,7 @@ use Rattle.stream.specs.declared.Fed.{Fed}
 use Rattle.stream.specs.declared.Finished.{Finished}
 use Rattle.entry.specs.Entry.{WorksForC, TellsVersion}
 use Rattle.speed.specs.Works.{Result, WorksBlocks, WorksMessage, WorksBytes}
+use Rattle.card_speed.specs.Works.{MeasuresGood, MeasuresFind}
 
 pub one-set-up : (n : ℕ) (key : List ℕ) (r r′ : SetUp) → SetsUp n key r → SetsUp n key r′ → r ≡ r′
 one-set-up n key r r′ h h′ = h .returned ∙ sym (h′ .returned)
@@ -42,6 +46,21 @@ one-version r r′ h h′ = h .returned ∙ sym (h′ .returned)
 pub one-reading : (text o : List ℕ) (r r′ : Reading) (q q′ : List ℕ) → Read text o r q → Read text o r′ q′ → (r ≡ r′) × (q ≡ q′)
 one-reading text o r r′ q q′ h h′ = (h .answers ∙ sym (h′ .answers), h .writes ∙ sym (h′ .writes))
 
+-- ---- cards
+pub one-judgement : (card : List ℕ) (r r′ : Bool) → Judges card r → Judges card r′ → r ≡ r′
+one-judgement card r r′ h h′ = h .answered ∙ sym (h′ .answered)
+
+-- a part's bytes, and its place: the memory that it lies in, and where it begins there
+pub one-part : (card : RefT (List ℕ)) (recipe segment : ℕ) (p p′ : RefT (List ℕ)) → Finds card recipe segment p → Finds card recipe segment p′
+    → (now p ≡ now p′) × (ptr p ≡ ptr p′)
+one-part card recipe segment p p′ h h′ =
+    let a = h .handed .inside ∙ sym (h′ .handed .inside) in
+    let b = h .handed .begins ∙ sym (h′ .handed .begins) in
+    (h .handed .holds ∙ sym (h′ .handed .holds), λ k. (a k, b k))
+
+pub one-put : (card r : List ℕ) (n n′ : ℕ) (q q′ : List ℕ) → Puts card r n q → Puts card r n′ q′ → (n ≡ n′) × (q ≡ q′)
+one-put card r n n′ q q′ h h′ = (h .answered ∙ sym (h′ .answered), h .left ∙ sym (h′ .left))
+
 -- ---- what host/bench measures
 pub one-blocks-measured : (c d : ℕ) (key x o : List ℕ) (r r′ : ℕ) (q q′ : List ℕ)
     → WorksBlocks c d key x o r q → WorksBlocks c d key x o r′ q′ → (r ≡ r′) × (q ≡ q′)
@@ -56,3 +75,9 @@ pub one-bytes-measured : (c d : ℕ) (key first x o : List ℕ) (r r′ : ℕ) (
 one-bytes-measured c d key first x o r r′ q q′ h h′ =
     let e = h .worked ∙ sym (h′ .worked) in
     (ap (λ (x : Result). x .answer) e, ap (λ (x : Result). x .out) e)
+
+pub one-good-measured : (card : List ℕ) (r r′ : ℕ) → MeasuresGood card r → MeasuresGood card r′ → r ≡ r′
+one-good-measured card r r′ h h′ = h .answered ∙ sym (h′ .answered)
+
+pub one-find-measured : (card : List ℕ) (recipe segment r r′ : ℕ) → MeasuresFind card recipe segment r → MeasuresFind card recipe segment r′ → r ≡ r′
+one-find-measured card recipe segment r r′ h h′ = h .answered ∙ sym (h′ .answered)

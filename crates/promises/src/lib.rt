@@ -7,10 +7,12 @@ use stream::Finished;
 use stream::Started;
 use stream::Stream;
 ghost use Rattle.hex.specs.Read.{Read};
+ghost use Rattle.card.specs.Promises.{Judges, Finds, Puts};
 ghost use Rattle.cipher.specs.Promises.{SetsUp, EnciphersBlock, DeciphersBlock};
 ghost use Rattle.stream.specs.Promises.{Starts, Feeds, Finishes};
 ghost use Rattle.entry.specs.Entry.{WorksForC, TellsVersion};
 ghost use Rattle.speed.specs.Works.{WorksBlocks, WorksMessage, WorksBytes};
+ghost use Rattle.card_speed.specs.Works.{MeasuresGood, MeasuresFind};
 
 pub fn set_up(cipher: u64, key: &[u8]) -> SetUp
     ensures { λ r. ⌜ SetsUp cipher (now (key .entry)) r ⌝ }
@@ -66,6 +68,24 @@ pub fn read_hex(text: &[u8], out: &mut [u8]) -> Reading
     hex::read(text, out)
 }
 
+pub fn good_card(card: &[u8]) -> bool
+    ensures { λ r. ⌜ Judges (now (card .entry)) r ⌝ }
+{
+    card::good(card)
+}
+
+pub fn find_segment(card: &[u8], recipe: u64, segment: u64) -> &[u8]
+    ensures { λ r. ⌜ Finds (card .entry) recipe segment r ⌝ }
+{
+    card::find(card, recipe, segment)
+}
+
+pub fn put_record(card: &mut [u8], record: &[u8]) -> u8
+    ensures { λ r. ⌜ Puts (now (card .entry)) (now («record» .entry)) r (now (card .exit)) ⌝ }
+{
+    card::put(card, record)
+}
+
 pub fn blocks_measured(
     cipher: u64,
     direction: u64,
@@ -102,4 +122,16 @@ pub fn bytes_measured(
     ensures { λ r. ⌜ WorksBytes cipher direction (now (key .entry)) (now (first .entry)) (now (input .entry)) (now (output .entry)) r (now (output .exit)) ⌝ }
 {
     speed::tlilcueyoh_speed_bytes(cipher, direction, key, first, input, output)
+}
+
+pub fn good_measured(card: &[u8]) -> u64
+    ensures { λ r. ⌜ MeasuresGood (now (card .entry)) r ⌝ }
+{
+    card_speed::tlilcueyoh_speed_good(card)
+}
+
+pub fn find_measured(card: &[u8], recipe: u64, segment: u64) -> u64
+    ensures { λ r. ⌜ MeasuresFind (now (card .entry)) recipe segment r ⌝ }
+{
+    card_speed::tlilcueyoh_speed_find(card, recipe, segment)
 }

@@ -43,3 +43,6 @@ finish-clear s e h = clear ((s, refusal.badState) ∷ (e, refusal.closed) ∷ (h
 
 pub entry-clear : (c l d b r : Bool) → refusal.entryOrder c l d b r ≡ refusal.done → Clear (c ∷ l ∷ d ∷ b ∷ r ∷ [])
 entry-clear c l d b r = clear ((c, refusal.unknownCipher) ∷ (l, refusal.keyLength) ∷ (d, refusal.direction) ∷ (b, refusal.blockLength) ∷ (r, refusal.noRoom) ∷ []) (refl, (refl, (refl, (refl, (refl, tt)))))
+
+pub put-clear : (c r s : Bool) → refusal.putOrder c r s ≡ refusal.done → Clear (c ∷ r ∷ s ∷ [])
+put-clear c r s = clear ((c, refusal.badCard) ∷ (r, refusal.badRecord) ∷ (s, refusal.noSlot) ∷ []) (refl, (refl, (refl, tt)))

@@ -1,4 +1,4 @@
--- The refusals: 01, 'Refusal numbers'. Their numbers, and the order of each call, in which the first that applies is given; 0 is done.
+-- The refusals: 01, 'Refusal numbers', and 02, request 1. Their numbers, and the order of each call, in which the first that applies is given; 0 is done.
 use mathlib.Core.Bool.{Bool}
 use mathlib.Core.List.{List, [], _∷_}
 use Prim.Native.Nat.{ℕ}
@@ -41,6 +41,15 @@ bytesHeld = 10
 abbrev pub blockLength : ℕ
 blockLength = 11
 
+abbrev pub badCard : ℕ
+badCard = 12
+
+abbrev pub badRecord : ℕ
+badRecord = 13
+
+abbrev pub noSlot : ℕ
+noSlot = 14
+
 -- ---- the orders: each argument says whether its cause applies
 -- the first of the causes that applies: each says whether it does, and its number
 abbrev pub first : List (Bool × ℕ) → ℕ
@@ -64,3 +73,6 @@ finishOrder s e h = first ((s, badState) ∷ (e, closed) ∷ (h, bytesHeld) ∷ 
 
 abbrev pub entryOrder : (cipher length dir block room : Bool) → ℕ
 entryOrder c l d b r = first ((c, unknownCipher) ∷ (l, keyLength) ∷ (d, direction) ∷ (b, blockLength) ∷ (r, noRoom) ∷ [])
+
+abbrev pub putOrder : (card «record» slot : Bool) → ℕ
+putOrder c r s = first ((c, badCard) ∷ (r, badRecord) ∷ (s, noSlot) ∷ [])

@@ -3,6 +3,7 @@ pub mod block;
 pub mod entry;
 pub mod finish;
 pub mod piece;
+pub mod put;
 pub mod set_up;
 pub mod start;
 
@@ -29,3 +30,9 @@ pub const NO_ROOM: u8 = 9;
 pub const BYTES_HELD: u8 = 10;
 
 pub const BLOCK_LENGTH: u8 = 11;
+
+pub const BAD_CARD: u8 = 12;
+
+pub const BAD_RECORD: u8 = 13;
+
+pub const NO_SLOT: u8 = 14;

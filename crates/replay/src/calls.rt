@@ -154,6 +154,11 @@ fn keep_stream(kept: Kept) -> Turn {
     }
 }
 
+// What is kept is none of a card's.
+fn on_card(on: bool, kept: Kept) -> Turn {
+    Turn { on, kept }
+}
+
 // The call of a number.
 pub fn call(code: u64, kept: Kept) -> Turn {
     match code {
@@ -166,6 +171,9 @@ pub fn call(code: u64, kept: Kept) -> Turn {
         7 => c_entry(kept),
         8 => keep_schedule(kept),
         9 => keep_stream(kept),
+        10 => on_card(card_calls::good(), kept),
+        11 => on_card(card_calls::find(), kept),
+        12 => on_card(card_calls::put(), kept),
         _ => broken(kept),
     }
 }

@@ -16,6 +16,16 @@ pub fn front(b: &[u8; 8192], n: usize) {
     first(b, n);
 }
 
+// A string: its length in four bytes, then the bytes.
+pub fn string(b: &[u8]) {
+    let n = b.len();
+    byte((n / 16777216 % 256) as u8);
+    byte((n / 65536 % 256) as u8);
+    byte((n / 256 % 256) as u8);
+    byte((n % 256) as u8);
+    bytes(b);
+}
+
 pub fn yes(b: bool) {
     byte(if b { 1 } else { 0 });
 }

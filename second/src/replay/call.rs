@@ -1,5 +1,5 @@
 //! One call of a script, and the bytes that stand for it there.
-//! Follows the page on replay, its table.
+//! Follows the page on replay, its tables.
 
 use super::record::{SCHEDULE_BYTES, STREAM_BYTES};
 
@@ -49,6 +49,18 @@ pub enum Call {
     },
     KeepSchedule(Box<[u8; SCHEDULE_BYTES]>),
     KeepStream(Box<[u8; STREAM_BYTES]>),
+    IsGood {
+        card: Vec<u8>,
+    },
+    Find {
+        card: Vec<u8>,
+        recipe: u64,
+        segment: u64,
+    },
+    Put {
+        card: Vec<u8>,
+        record: Vec<u8>,
+    },
 }
 
 impl Call {
@@ -63,6 +75,9 @@ impl Call {
             Call::Entry { .. } => 7,
             Call::KeepSchedule(_) => 8,
             Call::KeepStream(_) => 9,
+            Call::IsGood { .. } => 0x0A,
+            Call::Find { .. } => 0x0B,
+            Call::Put { .. } => 0x0C,
         }
     }
 
@@ -91,6 +106,13 @@ impl Call {
             ],
             Call::KeepSchedule(bytes) => vec![bytes.to_vec()],
             Call::KeepStream(bytes) => vec![bytes.to_vec()],
+            Call::IsGood { card } => vec![string(card)],
+            Call::Find {
+                card,
+                recipe,
+                segment,
+            } => vec![string(card), eight(*recipe), eight(*segment)],
+            Call::Put { card, record } => vec![string(card), string(record)],
         };
         [number, rest.concat()].concat()
     }
@@ -104,7 +126,8 @@ fn four(length: usize) -> Vec<u8> {
     (length as u32).to_be_bytes().to_vec()
 }
 
-fn string(bytes: &[u8]) -> Vec<u8> {
+/// A length in 4 bytes, then so many bytes.
+pub fn string(bytes: &[u8]) -> Vec<u8> {
     [&four(bytes.len()), bytes].concat()
 }
 

@@ -1,9 +1,10 @@
 //! A script made call by call, with everything that comes back written out.
 //! Follows the page on replay.
 
-use super::call::Call;
+use super::call::{string, Call};
 use super::reader::Reader;
 use super::record::{schedule_bytes, schedule_from, stream_bytes, stream_from};
+use crate::card::{find, good, put, Put};
 use crate::cipher::{decipher_block, encipher_block, set_up, OneBlock, Schedule};
 use crate::entry::entry;
 use crate::stream::{feed, finish, start, Next, Stream};
@@ -67,6 +68,13 @@ impl Kept {
                 self.stream = stream_from(&bytes);
                 Vec::new()
             }
+            Call::IsGood { card } => vec![u8::from(good(&card))],
+            Call::Find {
+                card,
+                recipe,
+                segment,
+            } => string(find(&card, recipe, segment)),
+            Call::Put { card, record } => put_card(put(&card, &record)),
         }
     }
 
@@ -94,4 +102,8 @@ impl Kept {
 
 fn one_block(back: OneBlock) -> Vec<u8> {
     [&[back.answer.number()], &back.out[..]].concat()
+}
+
+fn put_card(back: Put) -> Vec<u8> {
+    [&[back.answer.number()], &back.card[..]].concat()
 }

@@ -4,6 +4,7 @@
 
 mod blocks;
 pub mod call;
+mod cards;
 mod entries;
 pub mod faults;
 pub mod interpreter;
@@ -16,7 +17,7 @@ pub mod vectors;
 
 pub use interpreter::run;
 
-/// How much of the script is wanted: the streams part stands behind the blocks part.
+/// How much of the script is wanted: behind the blocks part stand streams, then cards.
 #[derive(Clone, Copy, Debug, PartialEq, Eq)]
 pub enum Extent {
     Blocks,
@@ -29,6 +30,7 @@ pub fn script(extent: Extent) -> Vec<u8> {
     blocks::write(&mut script);
     if extent == Extent::Whole {
         streams::write(&mut script);
+        cards::write(&mut script);
     }
     script.bytes
 }

@@ -46,6 +46,14 @@ impl<'a> Reader<'a> {
             7 => self.entry()?,
             8 => Call::KeepSchedule(Box::new(self.array()?)),
             9 => Call::KeepStream(Box::new(self.array()?)),
+            0x0A => Call::IsGood {
+                card: self.string()?,
+            },
+            0x0B => self.find()?,
+            0x0C => Call::Put {
+                card: self.string()?,
+                record: self.string()?,
+            },
             _ => return None,
         })
     }
@@ -57,6 +65,14 @@ impl<'a> Reader<'a> {
             key: self.string()?,
             block: self.string()?,
             buffer: self.buffer()?,
+        })
+    }
+
+    fn find(&mut self) -> Option<Call> {
+        Some(Call::Find {
+            card: self.string()?,
+            recipe: self.eight()?,
+            segment: self.eight()?,
         })
     }
 

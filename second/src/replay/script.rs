@@ -1,4 +1,4 @@
-//! A script while it is written, and the lists of values that both parts try.
+//! A script while it is written, and the lists of values that its parts try.
 //! Follows document 01 for what is legal and what stands next to it.
 
 use super::call::{Buffer, Call};
@@ -85,6 +85,26 @@ impl Script {
 
     pub fn keep_stream(&mut self, stream: &Stream) {
         self.call(Call::KeepStream(Box::new(stream_bytes(stream))));
+    }
+
+    pub fn is_good(&mut self, card: &[u8]) {
+        let card = card.to_vec();
+        self.call(Call::IsGood { card });
+    }
+
+    pub fn find(&mut self, card: &[u8], recipe: u64, segment: u64) {
+        let card = card.to_vec();
+        self.call(Call::Find {
+            card,
+            recipe,
+            segment,
+        });
+    }
+
+    pub fn put(&mut self, card: &[u8], record: &[u8]) {
+        let card = card.to_vec();
+        let record = record.to_vec();
+        self.call(Call::Put { card, record });
     }
 }
 

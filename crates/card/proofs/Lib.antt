@@ -1,0 +1,4 @@
+pub mod Rules
+pub mod Slots
+pub mod Twice
+pub mod Answers

@@ -1,0 +1,75 @@
+// Recipe cards: whether a card is good, finding a recipe's segment, putting a record (02, request 1). No cipher is known here.
+mod pairs;
+mod search;
+mod slot;
+
+ghost use mathlib.Core.Path.{_≡_};
+ghost use lib.ListN.{length};
+ghost use Rattle.card.specs.Card.{slots};
+ghost use Rattle.card.specs.Put.{goesTo};
+ghost use Rattle.card.specs.Promises.{Judges, Finds, Puts};
+
+// Is the card good?
+pub fn good(card: &[u8]) -> bool
+    ensures { λ r. ⌜ Judges (now (card .entry)) r ⌝ }
+{
+    if card.len() % 16 != 0 {
+        return false;
+    }
+    if card.len() > 4096 {
+        return false;
+    }
+    if search::of_illegal(card) < card.len() / 16 {
+        return false;
+    }
+    pairs::none_twice(card)
+}
+
+// The very slot of a recipe's segment, a part of the lent card; its empty part where there is none or the card is bad.
+pub fn find(card: &[u8], recipe: u64, segment: u64) -> &[u8]
+    ensures { λ r. ⌜ Finds (card .entry) recipe segment r ⌝ }
+{
+    if !good(card) {
+        return &card[0..0];
+    }
+    let n = card.len() / 16;
+    let i = pairs::of_pair(card, 0, recipe, segment);
+    if i < n {
+        return slot::at(card, i);
+    }
+    &card[0..0]
+}
+
+// The number of the slot that a record of 16 bytes goes to, or the number of slots.
+fn goes_to(card: &[u8], record: &[u8]) -> usize
+    ensures { λ r. ⌜ (length (now («record» .entry)) ≡ 16 → r ≡ goesTo (slots (now (card .entry))) (now («record» .entry))) ⌝ }
+{
+    let n = card.len() / 16;
+    if record.len() != 16 {
+        return n;
+    }
+    let recipe = slot::recipe(record) as u64;
+    let segment = slot::segment(record) as u64;
+    let namesake = pairs::of_pair(card, 0, recipe, segment);
+    let empty = search::of_empty(card);
+    if namesake < n {
+        return namesake;
+    }
+    empty
+}
+
+// A record put into the card, which keeps its bytes where this is refused.
+pub fn put(card: &mut [u8], record: &[u8]) -> u8
+    ensures { λ r. ⌜ Puts (now (card .entry)) (now («record» .entry)) r (now (card .exit)) ⌝ }
+{
+    let bad_card = !good(card);
+    let bad_record = !slot::good_record(record);
+    let i = goes_to(card, record);
+    let no = refusals::put::first(bad_card, bad_record, i >= card.len() / 16);
+    if no != refusals::DONE {
+        return no;
+    }
+    let block = runs::block_at(record, 0);
+    runs::store(card, i * 16, block);
+    refusals::DONE
+}

@@ -1,0 +1,1 @@
+// What is true of finding and putting together, about the definitions of cards. No code.

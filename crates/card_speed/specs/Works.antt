@@ -1,0 +1,14 @@
+-- What the works of the benchmark answer for a card, on any input. They are made of the public calls' definitions.
+use mathlib.Core.Path.{_≡_}
+use mathlib.Core.List.{List}
+use Prim.Native.Nat.{ℕ}
+use lib.ListN.{length}
+use Rattle.laws.specs.Choice.{choose}
+use Rattle.card.specs.Card.{good}
+use Rattle.card.specs.Find.{findPart}
+
+pub record MeasuresGood (card : List ℕ) (r : ℕ) : Type 0 where
+  pub answered : r ≡ choose (good card) 1 0
+
+pub record MeasuresFind (card : List ℕ) (recipe segment : ℕ) (r : ℕ) : Type 0 where
+  pub answered : r ≡ length (findPart card (recipe, segment))
