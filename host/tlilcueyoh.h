@@ -1,5 +1,5 @@
-/* Tlilcueyoh: one block of Hierocrypt-3, E2 or Noekeon, enciphered or deciphered.
-   Follows document 01, 'What is built' and 'Refusal numbers'.
+/* Tlilcueyoh: one block of Hierocrypt-3, E2 or either Noekeon, enciphered or deciphered.
+   Follows document 01, 'What is built' and 'Refusal numbers', and 02, request 2.
 
    The entry works ONE block and doesn't chain: a card of several blocks is CBC, which
    the caller does around it. host/example/card.c has both directions, for copying. */
@@ -14,19 +14,21 @@ extern "C" {
 #endif
 
 /* The version that this header speaks of. The archive's is what tlilcueyoh_version
-   answers: a host that compares them notices an archive of another version. */
-#define TLILCUEYOH_VERSION 1
+   answers: a host that compares them notices an archive of another version. In version 1
+   the number 3 was the earlier Noekeon, and there was no 4. */
+#define TLILCUEYOH_VERSION 2
 
 /* Every block has this many bytes. */
 #define TLILCUEYOH_BLOCK_BYTES 16
 
 /* No call needs more stack than this; host/check measures it. */
-#define TLILCUEYOH_STACK_BYTES 4096
+#define TLILCUEYOH_STACK_BYTES 4352
 
 /* Ciphers, with their legal key lengths in bytes. */
-#define TLILCUEYOH_HIEROCRYPT3 1 /* 16, 24 or 32 */
-#define TLILCUEYOH_E2          2 /* 16, 24 or 32 */
-#define TLILCUEYOH_NOEKEON     3 /* 16 */
+#define TLILCUEYOH_HIEROCRYPT3     1 /* 16, 24 or 32 */
+#define TLILCUEYOH_E2              2 /* 16, 24 or 32 */
+#define TLILCUEYOH_NOEKEON         3 /* 16; as its designers published it */
+#define TLILCUEYOH_NOEKEON_EARLIER 4 /* 16; as document 003 has it: for cards sold as number 3 before version 2 */
 
 /* Directions. */
 #define TLILCUEYOH_ENCIPHER 1
@@ -36,7 +38,7 @@ extern "C" {
    The order is that of the tests and not that of the numbers. TLILCUEYOH_BLOCK_LENGTH
    and TLILCUEYOH_KEY_LENGTH are refusals and not lengths. */
 #define TLILCUEYOH_DONE            0
-#define TLILCUEYOH_UNKNOWN_CIPHER  1 /* cipher isn't 1, 2 or 3 */
+#define TLILCUEYOH_UNKNOWN_CIPHER  1 /* cipher isn't 1 to 4 */
 #define TLILCUEYOH_KEY_LENGTH      2 /* key_len is illegal for the cipher */
 #define TLILCUEYOH_DIRECTION       4 /* direction isn't 1 or 2 */
 #define TLILCUEYOH_BLOCK_LENGTH   11 /* in_len isn't 16 */
@@ -44,7 +46,8 @@ extern "C" {
 
 /* Enciphers or deciphers the block `in` under `key`, and writes it to `out`.
 
-   cipher     TLILCUEYOH_HIEROCRYPT3, _E2 or _NOEKEON; all 64 bits count: 257 isn't 1
+   cipher     TLILCUEYOH_HIEROCRYPT3, _E2, _NOEKEON or _NOEKEON_EARLIER; all 64 bits count:
+              257 isn't 1
    direction  TLILCUEYOH_ENCIPHER or _DECIPHER; all 64 bits count
    key        key_len bytes, the key; only read
    in         in_len bytes, the block; only read

@@ -3,11 +3,12 @@
 
    The entry sets the key up in every call, since it keeps nothing between calls. What that costs is the difference of the
    lines `entry-` and CIPHER-WAY in docs/BENCHMARK.md: with Hierocrypt-3 one and a half to two times the block's own time,
-   with E2 one and a third, with Noekeon four tenths. Firmware that has Rattle, and not C, around it calls `set_up` once
-   and feeds a stream.
+   with E2 one and a third, with either Noekeon a third. Firmware that has Rattle, and not C, around it calls `set_up`
+   once and feeds a stream.
 
    card CIPHER DIRECTION KEY FIRST: numbers, and hex digits; the message from standard input, the result to standard
-   output. It ends with 1 if a call is refused or the message isn't whole blocks. */
+   output. It ends with 1 if a call is refused or the message isn't whole blocks. A card that was sold as cipher 3 before
+   version 2 is deciphered as cipher 4: no answer tells the two Noekeons apart, since any bytes can be deciphered. */
 #include "tlilcueyoh.h"
 
 #include <stdio.h>

@@ -53,7 +53,7 @@ struct call {
 
 static const struct call calls[] = {
     {TLILCUEYOH_HIEROCRYPT3, TLILCUEYOH_DECIPHER, sizeof key, sizeof card, sizeof recipe, USE_BLOCK},
-    {4, TLILCUEYOH_DECIPHER, sizeof key, sizeof card, sizeof recipe, REJECT_CARD},
+    {5, TLILCUEYOH_DECIPHER, sizeof key, sizeof card, sizeof recipe, REJECT_CARD},
     {TLILCUEYOH_HIEROCRYPT3, TLILCUEYOH_DECIPHER, 15, sizeof card, sizeof recipe, ASK_FOR_KEY},
     {TLILCUEYOH_HIEROCRYPT3, 0, sizeof key, sizeof card, sizeof recipe, STOP},
     {TLILCUEYOH_HIEROCRYPT3, TLILCUEYOH_DECIPHER, sizeof key, 15, sizeof recipe, READ_CARD_AGAIN},

@@ -54,7 +54,7 @@ static void counts(const char *name, const struct work *some, int n, int cipher,
 
 int main(int argc, char **argv)
 {
-    static const char *const ciphers[] = { "", "hierocrypt3", "e2", "noekeon" };
+    static const char *const ciphers[] = { "", "hierocrypt3", "e2", "noekeon", "noekeon-earlier" };
     static const char *const ways[] = { "", "encipher", "decipher" };
     if (argc != 2 || (strcmp(argv[1], "times") != 0 && strcmp(argv[1], "counts") != 0)) {
         fprintf(stderr, "bench times | counts\n");
@@ -63,7 +63,7 @@ int main(int argc, char **argv)
     void (*measure)(const char *, const struct work *, int, int, int) = strcmp(argv[1], "times") == 0 ? times : counts;
     make_ready();
     hold_to_each_other();
-    for (int cipher = HIEROCRYPT3; cipher <= NOEKEON; cipher++)
+    for (int cipher = HIEROCRYPT3; cipher <= NOEKEON_EARLIER; cipher++)
         for (int direction = ENCIPHER; direction <= DECIPHER; direction++) {
             char name[32];
             snprintf(name, sizeof name, "%s-%s", ciphers[cipher], ways[direction]);

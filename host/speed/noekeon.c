@@ -1,5 +1,4 @@
-/* Noekeon by libtomcrypt. For the time alone: libtomcrypt's has round constants and full rotations, which
-   003's lacks. */
+/* Noekeon by libtomcrypt. */
 #include "speed.h"
 
 #include <stdio.h>
@@ -12,7 +11,7 @@ static void well(int answer)
 {
     if (answer == CRYPT_OK)
         return;
-    fprintf(stderr, "bench: libtomcrypt: %s\n", error_to_string(answer));
+    fprintf(stderr, "libtomcrypt: %s\n", error_to_string(answer));
     exit(1);
 }
 

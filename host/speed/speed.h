@@ -5,7 +5,7 @@
 #include <stddef.h>
 #include <stdint.h>
 
-enum { HIEROCRYPT3 = 1, E2 = 2, NOEKEON = 3 };
+enum { HIEROCRYPT3 = 1, E2 = 2, NOEKEON = 3, NOEKEON_EARLIER = 4 };
 enum { ENCIPHER = 1, DECIPHER = 2 };
 
 /* A cipher under a key of 16 bytes, which is set up in each call: whole blocks, each by

@@ -2,25 +2,15 @@
 #include "works.h"
 #include "../tlilcueyoh.h"
 #include "card.h"
+#include "proved.h"
 
 #include <stdio.h>
 #include <stdlib.h>
 #include <string.h>
 
-uint64_t tlilcueyoh_speed_blocks(uint64_t cipher, uint64_t direction, const uint8_t *key, size_t key_len,
-                                 const uint8_t *in, size_t in_len, uint8_t *out, size_t out_len);
-uint64_t tlilcueyoh_speed_cbc(uint64_t cipher, uint64_t direction, const uint8_t *key, size_t key_len,
-                              const uint8_t *first, size_t first_len, const uint8_t *in, size_t in_len,
-                              uint8_t *out, size_t out_len);
-uint64_t tlilcueyoh_speed_bytes(uint64_t cipher, uint64_t direction, const uint8_t *key, size_t key_len,
-                                const uint8_t *first, size_t first_len, const uint8_t *in, size_t in_len,
-                                uint8_t *out, size_t out_len);
-
-uint64_t tlilcueyoh_speed_good(const uint8_t *card, size_t card_len);
-uint64_t tlilcueyoh_speed_find(const uint8_t *card, size_t card_len, uint64_t recipe, uint64_t segment);
-
+/* The earlier Noekeon has none of its own: it is laid beside the other Noekeon's time. */
 static const struct yardstick *const yardsticks[] = {
-    NULL, &hierocrypt3_yardstick, &e2_yardstick, &noekeon_yardstick,
+    NULL, &hierocrypt3_yardstick, &e2_yardstick, &noekeon_yardstick, &noekeon_yardstick,
 };
 static uint8_t key[16], first[16], in[BYTES], out[BYTES], other[BYTES];
 static uint8_t card[16 * SLOTS];
@@ -144,7 +134,7 @@ static void hold(int ours, int c, int cipher, int direction)
 
 void hold_to_each_other(void)
 {
-    for (int cipher = HIEROCRYPT3; cipher <= E2; cipher++)
+    for (int cipher = HIEROCRYPT3; cipher <= NOEKEON; cipher++)
         for (int direction = ENCIPHER; direction <= DECIPHER; direction++) {
             hold(OUR_BLOCKS, C_BLOCKS, cipher, direction);
             hold(OUR_CBC, C_CBC, cipher, direction);

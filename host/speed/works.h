@@ -23,7 +23,7 @@ extern const struct work card_works[CARD_WORKS];
 
 void make_ready(void);
 
-/* Ends the program if C gives other bytes than the proved side, for the ciphers where C has the same cipher. */
+/* Ends the program if C gives other bytes than the proved side, for the ciphers that C has too. */
 void hold_to_each_other(void);
 
 #endif

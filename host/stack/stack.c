@@ -37,12 +37,17 @@ static size_t used(void (*function)(void))
     return sizeof stack - clean;
 }
 
+static size_t longest_key(void)
+{
+    return cipher == TLILCUEYOH_NOEKEON || cipher == TLILCUEYOH_NOEKEON_EARLIER ? 16 : 32;
+}
+
 int main(void)
 {
     size_t base = used(empty), most = 0;
-    for (cipher = 1; cipher <= 3; cipher++)
+    for (cipher = 1; cipher <= 4; cipher++)
         for (direction = 1; direction <= 2; direction++)
-            for (key_len = 16; key_len <= (cipher == TLILCUEYOH_NOEKEON ? 16u : 32u); key_len += 8) {
+            for (key_len = 16; key_len <= longest_key(); key_len += 8) {
                 size_t n = used(call) - base;
                 if (answer != TLILCUEYOH_DONE)
                     return 1;

@@ -10,8 +10,9 @@ struct vector {
     const char *key, *plain, *ciphered;
 };
 
-/* The first three are those of document 002, section 4, with its misprints settled;
-   the others are answers of the second program. */
+/* The first three are those of document 002, section 4, with its misprints settled; Noekeon's
+   are libtomcrypt's own test and another answer of it; the others are answers of the second
+   program. The last, on the same key and block, is the earlier Noekeon's. */
 static const struct vector vectors[] = {
     {TLILCUEYOH_HIEROCRYPT3, "4703c87e817842c4ce6b167d43701b76",
      "85693846db4c1b3487272e555761c7f5", "5c5f4b00aec36d893cf1041e7fa8bae8"},
@@ -25,7 +26,11 @@ static const struct vector vectors[] = {
      "00112233445566778899aabbccddeeff", "67c5b8290d4d672fb2bbc0a981c0d11d"},
     {TLILCUEYOH_E2, "000102030405060708090a0b0c0d0e0f101112131415161718191a1b1c1d1e1f",
      "00112233445566778899aabbccddeeff", "60543d0346ebbd0ecadff442f38309aa"},
+    {TLILCUEYOH_NOEKEON, "aa3c8c86d98bf8be21e0360978fbe490",
+     "e4966cd313a06cafd023c9fd45322316", "a6ecb8a861fd62d91302fe9e47013fc3"},
     {TLILCUEYOH_NOEKEON, "000102030405060708090a0b0c0d0e0f",
+     "00112233445566778899aabbccddeeff", "bc0f896c2f202862871805418ce171bf"},
+    {TLILCUEYOH_NOEKEON_EARLIER, "000102030405060708090a0b0c0d0e0f",
      "00112233445566778899aabbccddeeff", "ef6a546cf0214ca5982e043e46fd1fb2"},
 };
 

@@ -28,7 +28,7 @@ struct kind {
     size_t key_length;
 };
 
-enum { KINDS = 7 };
+enum { KINDS = 8 };
 extern const struct kind kinds[KINDS];
 
 /* A good call of this kind with some key, some block and a room of 16. */

@@ -9,10 +9,10 @@ enum { RANDOM_CALLS = 150000 };
 
 static uint64_t predicted(const struct call *call)
 {
-    if (call->cipher == 0 || call->cipher > 3)
+    if (call->cipher == 0 || call->cipher > 4)
         return TLILCUEYOH_UNKNOWN_CIPHER;
-    if (call->key_length != 16 &&
-        (call->cipher == TLILCUEYOH_NOEKEON || (call->key_length != 24 && call->key_length != 32)))
+    int one_length = call->cipher == TLILCUEYOH_NOEKEON || call->cipher == TLILCUEYOH_NOEKEON_EARLIER;
+    if (call->key_length != 16 && (one_length || (call->key_length != 24 && call->key_length != 32)))
         return TLILCUEYOH_KEY_LENGTH;
     if (call->direction == 0 || call->direction > 2)
         return TLILCUEYOH_DIRECTION;

@@ -4,7 +4,10 @@
 
 static int legal_key_length(uint64_t cipher, size_t length)
 {
-    return length == 16 || (cipher != TLILCUEYOH_NOEKEON && (length == 24 || length == 32));
+    for (int k = 0; k < KINDS; k++)
+        if (kinds[k].cipher == cipher && kinds[k].key_length == length)
+            return 1;
+    return 0;
 }
 
 /* Causes in the order of their refusals; a set of them is a number with bit i for cause i. */
@@ -18,7 +21,7 @@ static const uint64_t refusals[CAUSES] = {
 static void damage(struct call *call, unsigned set, int variant)
 {
     static const uint64_t ciphers[VARIANTS] = {
-        0, 4, 256 + 1, (UINT64_C(1) << 32) + 1, UINT64_MAX, 256 + 3};
+        0, 5, 256 + 1, (UINT64_C(1) << 32) + 1, UINT64_MAX, 256 + 4};
     static const uint64_t directions[VARIANTS] = {
         0, 3, 256 + 2, (UINT64_C(1) << 32) + 1, UINT64_MAX, 256 + 1};
     static const size_t key_lengths[VARIANTS] = {0, 15, 17, 23, 33, LONGEST};
@@ -74,7 +77,7 @@ static void check_numbers(uint64_t cipher, uint64_t direction, uint64_t answer)
 /* Numbers that end in a legal one, or begin with one, aren't legal. */
 void check_wide_numbers(void)
 {
-    for (uint64_t cipher = 1; cipher <= 3; cipher++)
+    for (uint64_t cipher = 1; cipher <= 4; cipher++)
         for (uint64_t direction = 1; direction <= 2; direction++) {
             for (int bit = 2; bit < 64; bit++) {
                 uint64_t high = UINT64_C(1) << bit;

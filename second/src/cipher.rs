@@ -1,5 +1,6 @@
 //! The key schedule record; set-up and one block, whichever cipher.
-//! Follows document 01, 'What is built', 'The two records' and 'Refusal numbers'.
+//! Follows document 01, 'What is built', 'The two records' and 'Refusal numbers', and
+//! document 02, request 2, for numbers 3 and 4.
 
 use crate::bytes::{part, Block};
 use crate::refusal::Answer;
@@ -8,6 +9,7 @@ use crate::{e2, hierocrypt3, noekeon};
 pub const HIEROCRYPT3: u8 = 1;
 pub const E2: u8 = 2;
 pub const NOEKEON: u8 = 3;
+pub const NOEKEON_EARLIER: u8 = 4;
 
 pub const ROUND_KEY_BYTES: usize = 288;
 
@@ -30,7 +32,7 @@ pub fn is_key_length(cipher: u64, length: usize) -> bool {
 fn key_lengths(cipher: u64) -> Option<&'static [usize]> {
     match cipher {
         1 | 2 => Some(&[16, 24, 32]),
-        3 => Some(&[16]),
+        3 | 4 => Some(&[16]),
         _ => None,
     }
 }
@@ -75,7 +77,7 @@ impl Schedule {
         match self.cipher {
             HIEROCRYPT3 => hierocrypt3::encipher(&self.round_keys, self.rounds(), block),
             E2 => e2::encipher(&self.round_keys, block),
-            _ => noekeon::encipher(part(&self.round_keys, 0), block),
+            _ => self.rule().encipher(part(&self.round_keys, 0), block),
         }
     }
 
@@ -84,12 +86,19 @@ impl Schedule {
         match self.cipher {
             HIEROCRYPT3 => hierocrypt3::decipher(&self.round_keys, self.rounds(), block),
             E2 => e2::decipher(&self.round_keys, block),
-            _ => noekeon::decipher(part(&self.round_keys, 0), block),
+            _ => self.rule().decipher(part(&self.round_keys, 0), block),
         }
     }
 
     fn rounds(&self) -> usize {
         hierocrypt3::rounds(self.key_length.into())
+    }
+
+    fn rule(&self) -> noekeon::Rule {
+        match self.cipher {
+            NOEKEON => noekeon::DESIGNERS,
+            _ => noekeon::EARLIER,
+        }
     }
 }
 

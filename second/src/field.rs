@@ -1,5 +1,6 @@
 //! The fields of 256 elements, each by its modulus of degree 8.
-//! Follows document 002, section 3.7, and document 001, the paragraph on Power.
+//! Follows document 002, section 3.7, and document 001, the paragraph on Power; serves
+//! Noekeon's constants too.
 
 /// Bytes as polynomials over GF(2), bit 7 at z^7, modulo z^8 plus the low part.
 #[derive(Clone, Copy, Debug, PartialEq, Eq)]
@@ -16,7 +17,7 @@ impl Field {
         }
     }
 
-    fn times_z(self, x: u8) -> u8 {
+    const fn times_z(self, x: u8) -> u8 {
         let shifted = x << 1;
         if x & 0x80 == 0 {
             shifted
@@ -25,7 +26,7 @@ impl Field {
         }
     }
 
-    pub fn times(self, a: u8, b: u8) -> u8 {
+    pub const fn times(self, a: u8, b: u8) -> u8 {
         let (mut left, mut shifted, mut sum) = (a, b, 0);
         while left != 0 {
             if left & 1 == 1 {

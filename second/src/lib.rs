@@ -1,6 +1,6 @@
-//! The second program: document 01 and request 1 of document 02 once more, by another
-//! road than a fast program would take, so that its answers can be held against those
-//! of the product.
+//! The second program: document 01 and requests 1 and 2 of document 02 once more, by
+//! another road than a fast program would take, so that its answers can be held against
+//! those of the product.
 
 pub mod bytes;
 pub mod card;

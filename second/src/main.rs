@@ -11,7 +11,8 @@ use std::process::ExitCode;
 const USAGE: &str = "usage: second replay DIR [blocks]
        second check DIR [blocks]
        second run < SCRIPT > ANSWERS
-       second edges cards";
+       second edges cards
+       second edges ciphers";
 
 fn main() -> ExitCode {
     let arguments: Vec<String> = std::env::args().skip(1).collect();
@@ -23,6 +24,7 @@ fn main() -> ExitCode {
         ["check", directory, "blocks"] => check_files(directory, Extent::Blocks),
         ["run"] => interpret(),
         ["edges", "cards"] => write_out(edges::cards().as_bytes()),
+        ["edges", "ciphers"] => write_out(edges::ciphers().as_bytes()),
         _ => {
             eprintln!("{USAGE}");
             return ExitCode::from(2);

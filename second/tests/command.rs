@@ -94,10 +94,12 @@ fn run_interprets_standard_input() {
 
 #[test]
 fn edges_prints_the_edge_cases() {
-    let output = second(&["edges", "cards"]);
-    assert!(output.status.success());
-    assert_eq!(output.stdout, edges::cards().into_bytes());
-    assert!(output.stderr.is_empty());
+    for (word, text) in [("cards", edges::cards()), ("ciphers", edges::ciphers())] {
+        let output = second(&["edges", word]);
+        assert!(output.status.success());
+        assert_eq!(output.stdout, text.into_bytes());
+        assert!(output.stderr.is_empty());
+    }
 }
 
 #[test]
@@ -111,7 +113,10 @@ fn anything_else_is_answered_with_the_usage() {
         &["replay", "here", "cards"],
         &["edges"],
         &["edges", "blocks"],
+        &["edges", "cipher"],
         &["edges", "cards", "here"],
+        &["edges", "cards", "ciphers"],
+        &["edges", "ciphers", "3"],
         &["help"],
     ] {
         let output = second(arguments);

@@ -1,12 +1,13 @@
 //! Where the documents define a thing twice, both definitions agree.
-//! Follows document 001, document 002, sections 2.3 and 3, document 003, and
-//! document 01 for the repairs.
+//! Follows document 001, document 002, sections 2.3 and 3, document 003, document 01
+//! for the repairs, and document 02, request 2.
 
-use second::bytes::{part, words, xor, Block};
+use second::bytes::{from_words, part, words, xor, Block};
 use second::hierocrypt3::keys::{g0, intermediate_keys, rows, turn, Intermediate};
 use second::hierocrypt3::operations::{self as h3, f_sigma, p_n};
+use second::noekeon::{self, DESIGNERS, EARLIER};
 use second::random::Random;
-use second::{e2, hierocrypt3, noekeon};
+use second::{e2, hierocrypt3};
 
 const E2_P_REPAIRED: [[u8; 8]; 8] = [
     [0, 1, 1, 1, 1, 1, 1, 0],
@@ -123,14 +124,15 @@ fn e2_round_keys_by_the_loops_of_001() {
     }
 }
 
+/// Without constants the algorithm is the same in both directions.
 #[test]
-fn noekeon_deciphers_with_theta_of_zero_and_k_in_the_place_of_k() {
+fn the_earlier_noekeon_deciphers_with_theta_of_zero_and_k_in_the_place_of_k() {
     let random = &mut Random::seeded(16);
     for _ in 0..50 {
         let (key, block): (Block, Block) = (random.array(), random.array());
-        let other_key = noekeon::theta([0; 4], words(key));
-        let other_road = noekeon::rounds(noekeon::theta, other_key, words(block));
-        assert_eq!(words(noekeon::decipher(key, block)), other_road);
+        let other_key = from_words(EARLIER.theta([0; 4], words(key)));
+        let other_road = EARLIER.encipher(other_key, block);
+        assert_eq!(EARLIER.decipher(key, block), other_road);
     }
 }
 
@@ -139,21 +141,39 @@ fn noekeon_steps_undo_each_other_as_003_notes() {
     let random = &mut Random::seeded(17);
     for _ in 0..50 {
         let (key, p) = (words(random.array()), words(random.array()));
-        let theta = noekeon::theta(key, p);
-        assert_eq!(noekeon::theta_inverse(key, theta), p);
+        for rule in [DESIGNERS, EARLIER] {
+            let theta = rule.theta(key, p);
+            assert_eq!(rule.theta_inverse(key, theta), p);
+            let other_key = rule.theta([0; 4], key);
+            assert_eq!(rule.theta(other_key, theta), p);
+        }
         assert_eq!(noekeon::gamma(noekeon::gamma(p)), p);
         assert_eq!(noekeon::pi2(noekeon::pi1(p)), p);
         assert_eq!(noekeon::pi1(noekeon::pi2(p)), p);
     }
 }
 
-/// Both shifts in S are plain: a rotation would carry the bit to the other end.
+/// A plain shift loses the bit that leaves; a rotation carries it to the other end.
 #[test]
-fn noekeon_shifts_lose_the_bits_that_leave() {
-    let high = noekeon::theta([0; 4], [0x8000_0000, 0, 0, 0]);
-    assert_eq!(high[1], 0x8080_0000);
-    let low = noekeon::theta([0; 4], [0x0000_0001, 0, 0, 0]);
-    assert_eq!(low[1], 0x0000_0101);
+fn noekeon_shifts_lose_the_bits_that_leave_and_rotations_bring_them_back() {
+    for (word, plain, rotated) in [
+        (0x8000_0000, 0x8080_0000, 0x8080_0080),
+        (0x0000_0001, 0x0000_0101, 0x0100_0101),
+    ] {
+        let p = [word, 0, 0, 0];
+        assert_eq!(EARLIER.theta([0; 4], p)[1], plain);
+        assert_eq!(DESIGNERS.theta([0; 4], p)[1], rotated);
+    }
+}
+
+/// Each bit of t, so that S, which is linear, agrees everywhere.
+#[test]
+fn noekeon_s_by_neighbours_is_s_by_rotations() {
+    for bit in 0..32 {
+        let t = 1u32 << bit;
+        let rotated = t ^ t.rotate_right(8) ^ t.rotate_left(8);
+        assert_eq!((DESIGNERS.s)(t), rotated);
+    }
 }
 
 #[test]

@@ -1,9 +1,13 @@
-//! The edge cases of recipe cards as a person would write them down.
-//! Follows document 02, request 1.
+//! The edge cases of recipe cards as a person would write them down, and those of the
+//! ciphers with every block computed by the C entry and the definition of CBC alone.
+//! Follows document 02, requests 1 and 2, document 01, 'Marked cases', its last
+//! paragraph, and the definition of CBC in NIST SP 800-38A.
 
-use second::edges::cards;
+use second::bytes::{part, xor, Block};
+use second::edges::{cards, ciphers};
+use second::entry::entry;
 
-const SAID: &str = "\
+const SAID_OF_CARDS: &str = "\
 no bytes: good yes
   find 1 1: nothing
   put 000101022ee00258001e000000000000: answer 14, all as it was
@@ -71,9 +75,114 @@ a bad slot behind a good one: good no
 ";
 
 #[test]
-fn the_edge_cases_are_as_said() {
-    for (given, said) in cards().lines().zip(SAID.lines()) {
+fn the_edge_cases_of_cards_are_as_said() {
+    is_as_said(&cards(), SAID_OF_CARDS);
+}
+
+/// The first line that differs is shown, before the whole.
+fn is_as_said(given: &str, said: &str) {
+    for (given, said) in given.lines().zip(said.lines()) {
         assert_eq!(given, said);
     }
-    assert_eq!(cards(), SAID);
+    assert_eq!(given, said);
+}
+
+/// What is said of each cipher's streams: `<c1>` and `<c2>` stand for the message of two
+/// blocks enciphered, `<p>` for the last block of the million bytes deciphered, and
+/// `<ee>` for an output as it was.
+const SAID_OF_STREAMS: &str = "  \
+  start in direction 3: answer 4
+  start in direction 257: answer 4
+  start from 15 bytes: answer 3
+  start to encipher: answer 0
+  a piece of 7: answer 0, writes 0, output <ee>
+  then a piece of 9: answer 0, writes 16, output <c1>
+  then finish: answer 0
+  then a piece of 1: answer 7, writes 0, output <ee>
+  a piece of 31: answer 0, writes 16, output <c1>
+  it holds 15
+  then finish: answer 10
+  then a piece of 1: answer 0, writes 16, output <c2>
+  a piece of 16 into 15 of room: answer 9, writes 0, output eeeeeeeeeeeeeeeeeeeeeeeeeeeeee
+  then again, into 16: answer 0, writes 16, output <c1>
+  an empty message finished: answer 0
+  start to decipher: answer 0
+  1048576 bytes at once: answer 0, writes 1048576, the last 16 <p>
+  then 1 more: answer 8, writes 0, output <ee>
+  then an empty piece: answer 0, writes 0, output <ee>
+  then finish: answer 0
+";
+
+const AS_IT_WAS: Block = [0xEE; 16];
+
+fn hex(block: Block) -> String {
+    format!("{:032x}", u128::from_be_bytes(block))
+}
+
+fn worked(cipher: u64, direction: u64, key: &[u8], block: Block) -> Block {
+    let back = entry(cipher, direction, key, &block, &[0; 16]);
+    assert_eq!(back.answer.number(), 0);
+    part(&back.out, 0)
+}
+
+fn said_of_key(cipher: u64, length: usize) -> String {
+    let legal = match cipher {
+        1 | 2 => [16, 24, 32].contains(&length),
+        _ => length == 16,
+    };
+    let key = &b"0123456789abcdefghijklmnopqrstuvw"[..length];
+    let (answer, block_answer, output) = if legal {
+        (0, 0, worked(cipher, 1, key, *b"sixteen letters."))
+    } else {
+        (2, 5, AS_IT_WAS)
+    };
+    format!(
+        "  a key of {length} bytes: answer {answer}; \
+         a block under it: answer {block_answer}, output {}\n",
+        hex(output)
+    )
+}
+
+/// The second block of the message ends with its first letter once more.
+fn said_of_streams(cipher: u64) -> String {
+    let key = b"0123456789abcdef";
+    let c1 = xor(*b"the message of t", *b"the first block.");
+    let c1 = worked(cipher, 1, key, c1);
+    let c2 = worked(cipher, 1, key, xor(*b"hirty-one bytest", c1));
+    let p = xor(worked(cipher, 2, key, [3; 16]), [3; 16]);
+    SAID_OF_STREAMS
+        .replace("<c1>", &hex(c1))
+        .replace("<c2>", &hex(c2))
+        .replace("<p>", &hex(p))
+        .replace("<ee>", &hex(AS_IT_WAS))
+}
+
+fn said_of_cipher(cipher: u64) -> String {
+    let heading = format!("cipher {cipher}\n");
+    let keys = [15, 16, 17, 24, 32, 33].map(|length| said_of_key(cipher, length));
+    [heading, keys.concat(), said_of_streams(cipher)].concat()
+}
+
+#[test]
+fn the_edge_cases_of_ciphers_are_as_said() {
+    is_as_said(&ciphers(), &[1, 2, 3, 4].map(said_of_cipher).concat());
+}
+
+/// The four blocks under number 3, as libtomcrypt 1.18 gives them: one block, and its
+/// CBC in both directions.
+#[test]
+fn number_3_has_the_blocks_of_libtomcrypt() {
+    let text = ciphers();
+    let from = text.find("cipher 3\n").unwrap();
+    let to = text.find("cipher 4\n").unwrap();
+    let ends = [
+        "a block under it: answer 0, output daa758f1d84fb91f5c5d0d7220d3cfb7",
+        "then a piece of 9: answer 0, writes 16, output 7ad036c87f67508daa30831cc864b431",
+        "then a piece of 1: answer 0, writes 16, output efc0a1864c7f3ba1b876e8b8e6e57c62",
+        "writes 1048576, the last 16 fc029ae2e856dc058573471afdf3153f",
+    ];
+    for end in ends {
+        let lines = text[from..to].lines();
+        assert_eq!(lines.filter(|line| line.ends_with(end)).count(), 1, "{end}");
+    }
 }

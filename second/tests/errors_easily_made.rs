@@ -1,12 +1,15 @@
-//! Each error of the list, with a value that tells it from the right program.
-//! Follows document 01, 'Errors easily made'.
+//! Each error of the list, and those that request 2 invites, with a value that tells it
+//! from the right program.
+//! Follows document 01, 'Errors easily made', and document 02, request 2.
 
-use second::bytes::{from_words, part, words, xor};
+use second::bytes::{from_words, part, words, xor, Block};
+use second::cipher::{set_up as set_up_cipher, Schedule};
 use second::e2::functions::{divided, multiplied};
 use second::hierocrypt3::keys::{g0, intermediate_keys, rows, set_up, sigma_inverse, turn};
+use second::noekeon::{gamma, pi1, pi2, Rule, Words, DESIGNERS, EARLIER};
 use second::random::Random;
+use second::replay::ciphers::LEGAL;
 use second::replay::faults::any_schedule;
-use second::replay::script::LEGAL;
 use second::stream::{feed, start};
 
 #[test]
@@ -86,4 +89,75 @@ fn held_bytes_are_zero_again_after_a_block_is_completed() {
         assert_eq!(after.held[..held], vec![0xDD; held]);
         assert!(after.held[held..].iter().all(|&byte| byte == 0));
     }
+}
+
+/// The wrong rules undo themselves, so no round trip would tell.
+fn is_another_cipher(wrong: Rule, random: &mut Random) {
+    let (key, block) = (random.array(), random.array());
+    assert_eq!(wrong.decipher(key, wrong.encipher(key, block)), block);
+    assert_ne!(wrong.encipher(key, block), DESIGNERS.encipher(key, block));
+    assert_ne!(wrong.decipher(key, block), DESIGNERS.decipher(key, block));
+}
+
+#[test]
+fn both_shifts_in_s_are_rotations() {
+    let random = &mut Random::seeded(75);
+    let plain: [fn(u32) -> u32; 3] = [
+        EARLIER.s,
+        |t| t ^ (t >> 8) ^ t.rotate_left(8),
+        |t| t ^ t.rotate_right(8) ^ (t << 8),
+    ];
+    for s in plain {
+        is_another_cipher(Rule { s, ..DESIGNERS }, random);
+    }
+}
+
+#[test]
+fn no_constant_is_left_out_or_in_another_place() {
+    let random = &mut Random::seeded(76);
+    for i in 0..=16 {
+        let mut wrong = DESIGNERS;
+        wrong.constants[i] = 0;
+        is_another_cipher(wrong, random);
+        let mut wrong = DESIGNERS;
+        wrong.constants.swap(i, (i + 1) % 17);
+        is_another_cipher(wrong, random);
+    }
+}
+
+/// Deciphering with the constants in this order, each at its own theta.
+fn deciphered(order: &[usize], theta: impl Fn(usize, Words) -> Words, block: Block) -> Block {
+    let first = theta(order[0], words(block));
+    let rest = order[1..].iter();
+    from_words(rest.fold(first, |p, &i| theta(i, pi2(gamma(pi1(p))))))
+}
+
+#[test]
+fn deciphering_runs_the_constants_down_and_xors_them_in_after_theta() {
+    let random = &mut Random::seeded(77);
+    let (key, block): (Block, Block) = (random.array(), random.array());
+    let after = |i, p| DESIGNERS.add_constant(i, DESIGNERS.theta_inverse(words(key), p));
+    let before = |i, p| DESIGNERS.theta_inverse(words(key), DESIGNERS.add_constant(i, p));
+    let up: Vec<usize> = (0..=16).collect();
+    let down: Vec<usize> = (0..=16).rev().collect();
+    let right = DESIGNERS.decipher(key, block);
+    assert_eq!(deciphered(&down, after, block), right);
+    assert_ne!(deciphered(&up, after, block), right);
+    assert_ne!(deciphered(&down, before, block), right);
+    assert_ne!(deciphered(&up, before, block), right);
+}
+
+#[test]
+fn number_4_does_not_mean_number_3() {
+    let random = &mut Random::seeded(78);
+    let (key, block) = (random.bytes(16), random.array());
+    let [designers, earlier] = [3, 4].map(|cipher| set_up_cipher(cipher, &key).schedule);
+    assert_eq!((designers.cipher, earlier.cipher), (3, 4));
+    assert_eq!(designers.round_keys, earlier.round_keys);
+    for work in [Schedule::encipher, Schedule::decipher] {
+        assert_ne!(work(&designers, block), work(&earlier, block));
+    }
+    let key = part(&key, 0);
+    assert_eq!(designers.encipher(block), DESIGNERS.encipher(key, block));
+    assert_eq!(earlier.encipher(block), EARLIER.encipher(key, block));
 }

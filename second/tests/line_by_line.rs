@@ -1,10 +1,11 @@
-//! E2 and Noekeon once more, assignment by assignment as printed, against the library.
+//! E2 and both Noekeons once more, assignment by assignment as printed, against the
+//! library.
 //! Follows document 001, 'Algorithm of enciphering', with the repairs of document 01,
-//! and document 003; neither document has a vector.
+//! document 003, and document 02, request 2; none of them has a vector.
 
 use second::bytes::{from_words, part, words, Block};
 use second::random::Random;
-use second::{e2, noekeon};
+use second::{e2, noekeon::DESIGNERS, noekeon::EARLIER};
 
 /// 001's matrix of P, a row to a byte, the last row repaired.
 const P_ROWS: [u8; 8] = [
@@ -68,7 +69,7 @@ fn e2_line_by_line(round_keys: &[u8], block: Block) -> Block {
     std::array::from_fn(|i| divided[i] ^ k(16)[i])
 }
 
-fn theta(k: [u32; 4], p: &mut [u32; 4]) {
+fn theta_earlier(k: [u32; 4], p: &mut [u32; 4]) {
     let mut t = p[0] ^ p[2];
     t = t ^ (t >> 8) ^ (t << 8);
     p[1] ^= t;
@@ -82,6 +83,20 @@ fn theta(k: [u32; 4], p: &mut [u32; 4]) {
     p[2] ^= t;
 }
 
+fn theta_designers(k: [u32; 4], p: &mut [u32; 4]) {
+    let mut t = p[0] ^ p[2];
+    t = t ^ t.rotate_right(8) ^ t.rotate_left(8);
+    p[1] ^= t;
+    p[3] ^= t;
+    for i in 0..4 {
+        p[i] ^= k[i];
+    }
+    t = p[1] ^ p[3];
+    t = t ^ t.rotate_right(8) ^ t.rotate_left(8);
+    p[0] ^= t;
+    p[2] ^= t;
+}
+
 fn gamma(p: &mut [u32; 4]) {
     p[1] ^= !(p[2] | p[3]);
     p[0] ^= p[1] & p[2];
@@ -91,19 +106,56 @@ fn gamma(p: &mut [u32; 4]) {
     p[0] ^= p[1] & p[2];
 }
 
-fn noekeon_line_by_line(key: Block, block: Block) -> Block {
+fn pi1_gamma_pi2(p: &mut [u32; 4]) {
+    p[1] = p[1].rotate_left(1);
+    p[2] = p[2].rotate_left(5);
+    p[3] = p[3].rotate_left(2);
+    gamma(p);
+    p[1] = p[1].rotate_right(1);
+    p[2] = p[2].rotate_right(5);
+    p[3] = p[3].rotate_right(2);
+}
+
+fn earlier_line_by_line(key: Block, block: Block) -> Block {
     let (k, mut p) = (words(key), words(block));
     for _ in 1..=16 {
-        theta(k, &mut p);
-        p[1] = p[1].rotate_left(1);
-        p[2] = p[2].rotate_left(5);
-        p[3] = p[3].rotate_left(2);
-        gamma(&mut p);
-        p[1] = p[1].rotate_right(1);
-        p[2] = p[2].rotate_right(5);
-        p[3] = p[3].rotate_right(2);
+        theta_earlier(k, &mut p);
+        pi1_gamma_pi2(&mut p);
     }
-    theta(k, &mut p);
+    theta_earlier(k, &mut p);
+    from_words(p)
+}
+
+/// Request 2's list.
+const CONSTANTS: [u32; 17] = [
+    0x80, 0x1B, 0x36, 0x6C, 0xD8, 0xAB, 0x4D, 0x9A, 0x2F, 0x5E, 0xBC, 0x63, 0xC6, 0x97, 0x35, 0x6A,
+    0xD4,
+];
+
+fn designers_line_by_line(key: Block, block: Block) -> Block {
+    let (k, mut p) = (words(key), words(block));
+    for constant in &CONSTANTS[..16] {
+        p[0] ^= constant;
+        theta_designers(k, &mut p);
+        pi1_gamma_pi2(&mut p);
+    }
+    p[0] ^= CONSTANTS[16];
+    theta_designers(k, &mut p);
+    from_words(p)
+}
+
+/// 003's own algorithm with theta(0, K) in the place of K, and the constants as request 2
+/// runs them: 16 after the first theta, down to 0 after the last.
+fn designers_backwards_line_by_line(key: Block, block: Block) -> Block {
+    let (mut k, mut p) = (words(key), words(block));
+    theta_designers([0; 4], &mut k);
+    for i in (1..=16).rev() {
+        theta_designers(k, &mut p);
+        p[0] ^= CONSTANTS[i];
+        pi1_gamma_pi2(&mut p);
+    }
+    theta_designers(k, &mut p);
+    p[0] ^= CONSTANTS[0];
     from_words(p)
 }
 
@@ -118,11 +170,23 @@ fn e2_enciphers_as_printed() {
 }
 
 #[test]
-fn noekeon_enciphers_as_printed() {
+fn the_earlier_noekeon_enciphers_as_printed() {
     let random = &mut Random::seeded(82);
     for _ in 0..100 {
         let (key, block) = (random.array(), random.array());
-        let printed = noekeon_line_by_line(key, block);
-        assert_eq!(noekeon::encipher(key, block), printed);
+        let printed = earlier_line_by_line(key, block);
+        assert_eq!(EARLIER.encipher(key, block), printed);
+    }
+}
+
+#[test]
+fn the_designers_noekeon_works_as_printed_in_both_directions() {
+    let random = &mut Random::seeded(83);
+    for _ in 0..100 {
+        let (key, block) = (random.array(), random.array());
+        let printed = designers_line_by_line(key, block);
+        assert_eq!(DESIGNERS.encipher(key, block), printed);
+        let printed = designers_backwards_line_by_line(key, block);
+        assert_eq!(DESIGNERS.decipher(key, block), printed);
     }
 }

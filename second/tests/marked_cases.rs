@@ -1,10 +1,12 @@
 //! The marked cases C1 to C13, one table.
-//! Follows document 01, 'Marked cases, proved together'.
+//! Follows document 01, 'Marked cases, proved together', and document 02, request 2,
+//! for C13.
 
+use second::e2::functions as e2;
 use second::hierocrypt3::operations as h3;
-use second::{e2::functions as e2, noekeon};
+use second::noekeon::{self, DESIGNERS, EARLIER};
 
-/// What the document says, C1 to C13, each as a list of numbers.
+/// What the documents say, C1 to C13, each as a list of numbers.
 const SAID: [&[u32]; 13] = [
     &[0x07],
     &[0xFC],
@@ -18,7 +20,7 @@ const SAID: [&[u32]; 13] = [
     &[5, 10, 14, 13],
     &[0xC4, 0x8B, 0xC8, 0x65],
     &[0xFFFFFFFF, 0xFFFFFFFF, 0xFFFFFFFF, 0],
-    &[0x1, 0x101, 0x0, 0x101],
+    &[0x1, 0x1000101, 0x0, 0x1000101],
 ];
 
 /// What the definitions give, in the same order.
@@ -37,7 +39,7 @@ fn given() -> [Vec<u32>; 13] {
         numbers(h3::p_n([1, 2, 4, 8])),
         numbers(h3::mds_l([0x01, 0, 0, 0])),
         numbers(noekeon::gamma([0; 4])),
-        numbers(noekeon::theta([0; 4], [1, 0, 0, 0])),
+        numbers(DESIGNERS.theta([0; 4], [1, 0, 0, 0])),
     ]
 }
 
@@ -50,4 +52,11 @@ fn every_marked_case_holds() {
     for (case, (given, said)) in given().iter().zip(SAID).enumerate() {
         assert_eq!(given, said, "C{}", case + 1);
     }
+}
+
+/// What C13 said of number 3 in document 01 holds for number 4.
+#[test]
+fn the_case_of_the_earlier_rule_holds_still() {
+    let theta = EARLIER.theta([0; 4], [1, 0, 0, 0]);
+    assert_eq!(theta, [0x1, 0x101, 0x0, 0x101]);
 }

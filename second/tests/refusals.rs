@@ -1,12 +1,14 @@
 //! Each refusal exactly when the paper says, the first in order where several apply,
 //! and nothing changed by it.
-//! Follows document 01, 'Refusal numbers' and 'The two records'.
+//! Follows document 01, 'Refusal numbers' and 'The two records', and document 02,
+//! request 2, for number 4.
 
 use second::cipher::{decipher_block, encipher_block, set_up, used, Schedule};
 use second::entry::entry;
 use second::random::Random;
+use second::replay::ciphers::{ALL, LEGAL};
 use second::replay::faults::{any_schedule, any_stream, bad_schedules, bad_streams};
-use second::replay::script::{LEGAL, NUMBERS};
+use second::replay::script::DIRECTIONS;
 use second::stream::{feed, finish, start, Stream};
 
 /// All sets of broken rules, each as which of the `order` are broken, with the answer
@@ -32,12 +34,12 @@ fn pick<T: Copy>(random: &mut Random, broken: bool, bad: &[T], good: T) -> T {
 #[test]
 fn set_up_refuses_1_then_2() {
     let random = &mut Random::seeded(41);
-    for cipher in NUMBERS {
+    for &cipher in ALL.numbers {
         for length in [0, 1, 15, 16, 17, 23, 24, 25, 31, 32, 33, 272, 280, 288] {
             let back = set_up(cipher, &random.bytes(length));
             let expected = match (cipher, length) {
-                (1 | 2, 16 | 24 | 32) | (3, 16) => 0,
-                (1..=3, _) => 2,
+                (1 | 2, 16 | 24 | 32) | (3 | 4, 16) => 0,
+                (1..=4, _) => 2,
                 _ => 1,
             };
             assert_eq!(back.answer.number(), expected, "{cipher} {length}");
@@ -56,7 +58,7 @@ fn set_up_refuses_1_then_2() {
 #[test]
 fn one_block_refuses_5_then_11_then_9() {
     let random = &mut Random::seeded(42);
-    let bad = bad_schedules(random);
+    let bad = bad_schedules(random, &ALL);
     for (cipher, key_length) in LEGAL {
         for ([schedule, length, room], expected) in sets_of([5, 11, 9]) {
             let good = any_schedule(random, cipher, key_length);
@@ -82,7 +84,7 @@ fn one_block_refuses_5_then_11_then_9() {
 #[test]
 fn start_refuses_5_then_4_then_3() {
     let random = &mut Random::seeded(43);
-    let bad = bad_schedules(random);
+    let bad = bad_schedules(random, &ALL);
     for (cipher, key_length) in LEGAL {
         for ([schedule, direction, first], expected) in sets_of([5, 4, 3]) {
             let good = any_schedule(random, cipher, key_length);
@@ -114,7 +116,7 @@ fn start_refuses_5_then_4_then_3() {
 /// Counts from which the piece lengths below are too long, or not.
 fn stream_breaking(random: &mut Random, bad: bool, closed: bool, over: bool) -> Stream {
     let count = if over { Stream::LIMIT } else { 32 };
-    let stream = any_stream(random, count);
+    let stream = any_stream(random, &LEGAL, count);
     let direction = if bad { 0 } else { stream.direction };
     Stream {
         closed,
@@ -146,7 +148,7 @@ fn a_piece_refuses_6_then_7_then_8_then_9() {
 fn finish_refuses_6_then_7_then_10() {
     let random = &mut Random::seeded(45);
     for ([bad, closed, held], expected) in sets_of([6, 7, 10]) {
-        let stream = any_stream(random, if held { 37 } else { 32 });
+        let stream = any_stream(random, &LEGAL, if held { 37 } else { 32 });
         let direction = if bad { 3 } else { stream.direction };
         let stream = Stream {
             closed,
@@ -167,7 +169,7 @@ fn the_entry_refuses_1_then_2_then_4_then_11_then_9() {
     let random = &mut Random::seeded(46);
     for (cipher, key_length) in LEGAL {
         for ([number, key, direction, block, room], expected) in sets_of([1, 2, 4, 11, 9]) {
-            let cipher = pick(random, number, &[0, 4, 257, u64::MAX], cipher.into());
+            let cipher = pick(random, number, ALL.illegal, cipher.into());
             let length = pick(random, key, &[0, 15, 17, 33], key_length.into());
             let right = random.one_of(&[1, 2]);
             let direction = pick(random, direction, &[0, 3, 257, 258], right);
@@ -184,12 +186,12 @@ fn the_entry_refuses_1_then_2_then_4_then_11_then_9() {
 
 #[test]
 fn the_entry_knows_numbers_by_all_their_bytes() {
-    for cipher in NUMBERS {
-        for direction in NUMBERS {
+    for &cipher in ALL.numbers {
+        for direction in DIRECTIONS {
             let back = entry(cipher, direction, &[7; 16], &[0; 16], &[0; 16]);
             let expected = match (cipher, direction) {
-                (1..=3, 1 | 2) => 0,
-                (1..=3, _) => 4,
+                (1..=4, 1 | 2) => 0,
+                (1..=4, _) => 4,
                 _ => 1,
             };
             assert_eq!(back.answer.number(), expected);
@@ -200,7 +202,7 @@ fn the_entry_knows_numbers_by_all_their_bytes() {
 #[test]
 fn every_cause_makes_a_schedule_bad() {
     let random = &mut Random::seeded(47);
-    let bad = bad_schedules(random);
+    let bad = bad_schedules(random, &ALL);
     assert!(bad.iter().all(Schedule::is_bad));
     for (cipher, key_length) in LEGAL {
         let good = any_schedule(random, cipher, key_length);
@@ -212,10 +214,10 @@ fn every_cause_makes_a_schedule_bad() {
         }
         for number in 0..=255 {
             let marked = Schedule::with(number, key_length, &[]);
-            let legal = matches!((number, key_length), (1 | 2, _) | (3, 16));
+            let legal = matches!((number, key_length), (1 | 2, _) | (3 | 4, 16));
             assert_eq!(marked.is_bad(), !legal);
             let marked = Schedule::with(cipher, number, &[]);
-            let legal = matches!((cipher, number), (1 | 2, 16 | 24 | 32) | (3, 16));
+            let legal = matches!((cipher, number), (1 | 2, 16 | 24 | 32) | (3 | 4, 16));
             assert_eq!(marked.is_bad(), !legal);
         }
     }
@@ -224,9 +226,9 @@ fn every_cause_makes_a_schedule_bad() {
 #[test]
 fn every_cause_makes_a_state_bad() {
     let random = &mut Random::seeded(48);
-    let mut bad = bad_streams(random);
-    for schedule in bad_schedules(random) {
-        let stream = any_stream(random, 16);
+    let mut bad = bad_streams(random, &LEGAL);
+    for schedule in bad_schedules(random, &ALL) {
+        let stream = any_stream(random, &LEGAL, 16);
         bad.push(Stream { schedule, ..stream });
     }
     for stream in bad {
@@ -244,7 +246,7 @@ fn every_cause_makes_a_state_bad() {
 fn a_state_is_good_up_to_each_edge() {
     let random = &mut Random::seeded(49);
     for count in [0, 1, 15, 16, 17, 31, Stream::LIMIT - 1, Stream::LIMIT] {
-        let stream = any_stream(random, count);
+        let stream = any_stream(random, &LEGAL, count);
         assert!(!stream.is_bad());
         let held = stream.held_number();
         let closed = Stream {

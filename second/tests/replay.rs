@@ -3,6 +3,7 @@
 //! Follows the page on replay.
 
 use second::cipher::{encipher_block, set_up};
+use second::noekeon::{DESIGNERS, EARLIER};
 use second::replay::call::{Buffer, Call};
 use second::replay::interpreter::Kept;
 use second::replay::reader::Reader;
@@ -21,7 +22,7 @@ fn the_committed_files_are_what_is_written_today() {
     let script = script(Extent::Whole);
     assert!(committed("script") == script, "the script differs");
     assert!(committed("answers") == run(&script), "the answers differ");
-    assert!(script.len() < 1_000_000 && run(&script).len() < 1_000_000);
+    assert!(script.len() < 1_200_000 && run(&script).len() < 1_200_000);
 }
 
 #[test]
@@ -59,11 +60,113 @@ fn the_parts_hold_the_calls_they_are_for() {
     assert_eq!(numbers(&whole), BTreeSet::from_iter(1..=0x0C));
 }
 
+/// The calls before and behind the cards part, which no other call stands within.
+fn around_the_cards_part() -> (Vec<Call>, Vec<Call>) {
+    let mut before = calls(&script(Extent::Whole));
+    let of_cards = |call: &Call| call.number() > 9;
+    let first = before.iter().position(of_cards).unwrap();
+    let mut cards = before.split_off(first);
+    let length = cards.iter().take_while(|call| of_cards(call)).count();
+    let behind = cards.split_off(length);
+    assert!(!behind.iter().any(of_cards));
+    (before, behind)
+}
+
+/// The cipher number that a call hands in.
+fn handed_in(call: &Call) -> Option<u64> {
+    match call {
+        Call::SetUp { cipher, .. } | Call::Entry { cipher, .. } => Some(*cipher),
+        Call::KeepSchedule(record) => Some(record[0].into()),
+        Call::KeepStream(record) => Some(record[0].into()),
+        _ => None,
+    }
+}
+
 #[test]
-fn the_cards_part_stands_behind_all_else() {
-    let calls = calls(&script(Extent::Whole));
-    let of_cards: Vec<bool> = calls.iter().map(|call| call.number() > 9).collect();
-    assert!(of_cards.windows(2).all(|two| two[0] <= two[1]));
+fn number_3_is_handed_in_behind_the_cards_part_alone_and_there_by_every_call() {
+    let (before, behind) = around_the_cards_part();
+    let handing_in = |calls: &[Call], number| -> BTreeSet<u8> {
+        let calls = calls.iter().filter(|call| handed_in(call) == Some(number));
+        calls.map(Call::number).collect()
+    };
+    let every = BTreeSet::from([1, 7, 8, 9]);
+    assert_eq!(handing_in(&before, 3), BTreeSet::new());
+    assert_eq!(handing_in(&before, 4), every);
+    assert_eq!(handing_in(&behind, 3), every);
+    assert_eq!(handing_in(&behind, 4), every);
+}
+
+/// Number, key length and answer of the set-ups (1) or of the entries (7) of a list.
+fn keys_and_answers(calls: Vec<Call>, number: u8) -> BTreeSet<(u64, usize, u8)> {
+    let mut kept = Kept::ZERO;
+    let mut found = BTreeSet::new();
+    for call in calls.into_iter().filter(|call| call.number() == number) {
+        if let Call::SetUp { cipher, key } | Call::Entry { cipher, key, .. } = &call {
+            let (cipher, length) = (*cipher, key.len());
+            found.insert((cipher, length, kept.make(call)[0]));
+        }
+    }
+    found
+}
+
+#[test]
+fn request_2_has_its_refusals_1_and_2_in_the_script() {
+    let (_, behind) = around_the_cards_part();
+    for number in [1, 7] {
+        let found = keys_and_answers(behind.clone(), number);
+        for cipher in [0, 5, 259, 260, (1 << 32) + 3, (1 << 63) + 4, u64::MAX] {
+            assert!(found.contains(&(cipher, 16, 1)), "{cipher}");
+        }
+        for cipher in [3, 4] {
+            assert!(found.contains(&(cipher, 16, 0)));
+            for length in [0, 15, 17, 24, 32] {
+                assert!(found.contains(&(cipher, length, 2)), "{cipher} {length}");
+            }
+        }
+    }
+}
+
+fn marked_behind_16(record: &[u8]) -> bool {
+    record[1] == 16 && record[18..290].iter().any(|&byte| byte != 0)
+}
+
+#[test]
+fn request_2_has_round_keys_behind_16_in_the_script_and_refuses_them() {
+    let (_, behind) = around_the_cards_part();
+    let mut found = BTreeSet::new();
+    for two in behind.windows(2) {
+        let record = match &two[0] {
+            Call::KeepSchedule(record) => &record[..],
+            Call::KeepStream(record) => &record[..],
+            _ => continue,
+        };
+        if marked_behind_16(record) {
+            let mut kept = Kept::ZERO;
+            kept.make(two[0].clone());
+            found.insert((record[0], kept.make(two[1].clone())[0]));
+        }
+    }
+    assert_eq!(found, BTreeSet::from([(3, 5), (3, 6), (4, 5), (4, 6)]));
+}
+
+/// Entries that are alike but for their number, with what came back.
+#[test]
+fn the_same_bytes_under_3_and_4_are_in_the_script_and_give_other_blocks() {
+    let (_, behind) = around_the_cards_part();
+    let mut kept = Kept::ZERO;
+    let mut blocks: BTreeMap<Vec<u8>, BTreeMap<u64, Vec<u8>>> = BTreeMap::new();
+    for call in behind {
+        if let Call::Entry { cipher, .. } = call {
+            let rest = call.bytes()[9..].to_vec();
+            let back = kept.make(call);
+            if back[0] == 0 {
+                blocks.entry(rest).or_default().insert(cipher, back);
+            }
+        }
+    }
+    let pairs: Vec<_> = blocks.values().filter(|under| under.len() == 2).collect();
+    assert!(pairs.len() >= 8);
+    assert!(pairs.iter().all(|under| under[&3] != under[&4]));
 }
 
 #[test]
@@ -185,11 +288,12 @@ fn the_records_lie_as_the_page_says() {
 fn the_entry_byte_by_byte() {
     let script = format!(
         "07 0000000000000003 0000000000000002 00000010 {KEY} 00000010 {BLOCK} 00000010 00
-         07 0000000000000103 0000000000000002 00000010 {KEY} 00000010 {BLOCK} 00000001 44"
+         07 0000000000000103 0000000000000002 00000010 {KEY} 00000010 {BLOCK} 00000001 44
+         07 0000000000000104 0000000000000002 00000010 {KEY} 00000010 {BLOCK} 00000001 55"
     );
     let schedule = set_up(3, &hex(KEY)).schedule;
     let block = schedule.decipher(hex(BLOCK).try_into().unwrap());
-    let expected = [&[0][..], &block, &[1, 0x44]];
+    let expected = [&[0][..], &block, &[1, 0x44], &[1, 0x55]];
     assert_eq!(run(&hex(&script)), expected.concat());
 }
 
@@ -259,13 +363,27 @@ fn calls_on_cards_leave_what_is_kept() {
 fn refused_records_are_kept_too() {
     let script = [
         set_up_call(),
-        hex("01 0000000000000004 00000000"),
+        hex("01 0000000000000005 00000000"),
         hex(&format!("02 00000010 {BLOCK} 00000000 00")),
         hex("06"),
     ];
     let answers = run(&script.concat());
     let refused = [&[1][..], &[0; 290], &[5], &[6], &[0; 331]];
     assert_eq!(answers[291..], refused.concat());
+}
+
+/// The same record but for its first byte.
+#[test]
+fn a_kept_schedule_is_read_by_its_number() {
+    let schedule = hex(&format!("10 {KEY}"));
+    let block = format!("02 00000010 {BLOCK} 00000010 00 03 00000010 {BLOCK} 00000010 00");
+    let (key, text) = (hex(KEY).try_into().unwrap(), hex(BLOCK).try_into().unwrap());
+    for (number, rule) in [(3, DESIGNERS), (4, EARLIER)] {
+        let script = [&[8, number][..], &schedule, &[0; 272], &hex(&block)];
+        let out = [rule.encipher(key, text), rule.decipher(key, text)];
+        let expected = [&[0][..], &out[0], &[0], &out[1]];
+        assert_eq!(run(&script.concat()), expected.concat());
+    }
 }
 
 #[test]

@@ -1,12 +1,12 @@
 //! Deciphering undoes enciphering, and the reverse, for every schedule that isn't bad.
-//! Follows document 01, 'The two records'.
+//! Follows document 01, 'The two records', and document 02, request 2.
 
 use second::cipher::{decipher_block, encipher_block, set_up, used, Schedule};
 use second::entry::entry;
 use second::random::Random;
 use second::refusal::Answer;
+use second::replay::ciphers::LEGAL;
 use second::replay::faults::any_schedule;
-use second::replay::script::LEGAL;
 
 fn both_ways(schedule: &Schedule, random: &mut Random) {
     assert!(!schedule.is_bad());
@@ -53,13 +53,16 @@ fn the_two_directions_differ() {
     }
 }
 
-/// Under the zero key Noekeon enciphers and deciphers alike.
+/// Under the zero key the earlier Noekeon enciphers and deciphers alike; the constants
+/// of the designers' tell the directions apart.
 #[test]
-fn noekeon_under_the_zero_key_cannot_tell_directions_apart() {
+fn the_earlier_noekeon_under_the_zero_key_cannot_tell_directions_apart() {
     let random = &mut Random::seeded(34);
-    let schedule = set_up(3, &[0; 16]).schedule;
     let block = random.array();
-    assert_eq!(schedule.encipher(block), schedule.decipher(block));
+    let earlier = set_up(4, &[0; 16]).schedule;
+    assert_eq!(earlier.encipher(block), earlier.decipher(block));
+    let designers = set_up(3, &[0; 16]).schedule;
+    assert_ne!(designers.encipher(block), designers.decipher(block));
 }
 
 #[test]
@@ -111,6 +114,7 @@ fn the_layout_of_the_round_keys() {
         (2, 24, 256),
         (2, 32, 256),
         (3, 16, 16),
+        (4, 16, 16),
     ] {
         let key = random.bytes(key_length);
         let schedule = set_up(cipher, &key).schedule;
@@ -118,7 +122,7 @@ fn the_layout_of_the_round_keys() {
         assert!(schedule.round_keys[bytes..].iter().all(|&byte| byte == 0));
         let last_sixteen = &schedule.round_keys[bytes - 16..bytes];
         assert!(last_sixteen.iter().any(|&byte| byte != 0));
-        if cipher == 3 {
+        if bytes == 16 {
             assert_eq!(schedule.round_keys[..16], key);
         }
     }

@@ -7,8 +7,8 @@ use second::bytes::{part, xor, Block};
 use second::cipher::{decipher_block, encipher_block, set_up, Schedule};
 use second::random::Random;
 use second::refusal::Answer;
+use second::replay::ciphers::LEGAL;
 use second::replay::faults::any_schedule;
-use second::replay::script::LEGAL;
 use second::stream::{feed, finish, start, Fed, Stream};
 
 fn block_of(bytes: Vec<u8>) -> Block {

@@ -1,10 +1,11 @@
 //! Printed tables and matrices against the rules, with the misprints listed.
 //! Follows document 002, sections 2.3.1, 3.2 and 3.6 to 3.10, document 000 where
-//! it prints the same things, and document 001, table 1.
+//! it prints the same things, document 001, table 1, and document 02, request 2.
 
 use second::hierocrypt3::keys::H;
 use second::hierocrypt3::operations::{tables, A, C, FIELD, P};
 use second::matrix::{product, unit, Matrix};
+use second::noekeon::{DESIGNERS, EARLIER};
 use second::{e2, hierocrypt3};
 
 /// Document 002, section 3.6, as printed.
@@ -225,4 +226,14 @@ fn the_constants_h_are_roots() {
     }
     let misprinted_in_000 = 0x6AC2_C1D6;
     assert!(!is_root(misprinted_in_000, 10));
+}
+
+#[test]
+fn noekeon_constants_are_the_list_of_request_2() {
+    let printed = "80 1B 36 6C D8 AB 4D 9A 2F 5E BC 63 C6 97 35 6A D4";
+    let given = DESIGNERS
+        .constants
+        .map(|constant| format!("{constant:02X}"));
+    assert_eq!(given.join(" "), printed);
+    assert_eq!(EARLIER.constants, [0; 17]);
 }

@@ -1,9 +1,11 @@
-//! Document 002's three vectors: the print, the settled digits, and why.
+//! Document 002's three vectors: the print, the settled digits, and why; and four of the
+//! designers' Noekeon from outside.
 //! Follows document 002, section 4, and document 01, 'Marked cases', its last paragraph.
 
 use second::bytes::{part, Block};
+use second::cipher;
 use second::hierocrypt3::{decipher, encipher, keys::set_up, rounds};
-use second::replay::vectors::VECTORS;
+use second::replay::vectors::{NOEKEON_VECTORS, VECTORS};
 
 const KEY: usize = 0;
 const PLAINTEXT: usize = 1;
@@ -263,5 +265,20 @@ fn read_as(printed: char) -> char {
         '¢' => 'c',
         '{' => 'f',
         other => other,
+    }
+}
+
+/// In direct mode: the vector in the test that libtomcrypt 1.18 has of its Noekeon, and
+/// three blocks as that library enciphers them: zeros under zeros, ones under ones, and
+/// what came out of the second under what came out of the first.
+#[test]
+fn number_3_gives_the_vectors_of_the_designers_noekeon_and_number_4_does_not() {
+    for vector in &NOEKEON_VECTORS {
+        let (plaintext, ciphertext) = (vector.plaintext_block(), vector.ciphertext_block());
+        let under = |number| cipher::set_up(number, &vector.key_bytes()).schedule;
+        assert_eq!(under(3).encipher(plaintext), ciphertext);
+        assert_eq!(under(3).decipher(ciphertext), plaintext);
+        assert_ne!(under(4).encipher(plaintext), ciphertext);
+        assert_ne!(under(4).decipher(ciphertext), plaintext);
     }
 }

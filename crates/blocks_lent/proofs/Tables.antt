@@ -2,9 +2,11 @@
 use mathlib.Core.Path.{_≡_, _∙_}
 use mathlib.Core.List.{List, []}
 use Prim.Native.Nat.{ℕ}
+use lib.Dec.{eqb}
 use borrow.Author.Tests.{eq-eqb, ne-eqb}
 use Rattle.hierocrypt3_tables.specs.code.Tables as hierocrypt3
 use Rattle.e2_table.specs.Substitution as e2
+use Rattle.noekeon_steps.specs.Rule.{Rule, rule}
 use Rattle.blocks_lent.specs.Ways.{bytesLent, wordsLent, Lent}
 use Rattle.blocks_lent.specs.declared.Way.{Way}
 
@@ -22,6 +24,10 @@ module _ (w : Way) (bytes words : List ℕ) where
   unfolding bytesLent
   lent-2 l c = l .bytes-are ∙ rw c
 
+  pub lent-last : Lent w bytes words → (w .cipher ≡ 1 → ⊥) → (w .cipher ≡ 2 → ⊥) → words ≡ rule (eqb (w .cipher) 3) .constants
+  unfolding wordsLent
+  lent-last l a b = l .words-are ∙ rw (ne-eqb _ _ a, ne-eqb _ _ b)
+
   -- ---- that they are
   pub lend-1-forth : w .cipher ≡ 1 → w .direction ≡ 1 → bytes ≡ hierocrypt3.sTable → words ≡ hierocrypt3.tTable → Lent w bytes words
   unfolding bytesLent wordsLent
@@ -35,6 +41,6 @@ module _ (w : Way) (bytes words : List ℕ) where
   unfolding bytesLent wordsLent
   lend-2 c e f = record { bytes-are = rw c e; words-are = rw c f }
 
-  pub lend-none : (w .cipher ≡ 1 → ⊥) → (w .cipher ≡ 2 → ⊥) → bytes ≡ [] → words ≡ [] → Lent w bytes words
+  pub lend-last : (w .cipher ≡ 1 → ⊥) → (w .cipher ≡ 2 → ⊥) → bytes ≡ [] → words ≡ rule (eqb (w .cipher) 3) .constants → Lent w bytes words
   unfolding bytesLent wordsLent
-  lend-none a b e f = record { bytes-are = rw (ne-eqb _ _ a, ne-eqb _ _ b) e; words-are = rw (ne-eqb _ _ a) f }
+  lend-last a b e f = record { bytes-are = rw (ne-eqb _ _ a, ne-eqb _ _ b) e; words-are = rw (ne-eqb _ _ a, ne-eqb _ _ b) f }

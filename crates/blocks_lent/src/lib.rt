@@ -4,6 +4,7 @@ pub mod chain;
 
 use cipher_numbers::E2;
 use cipher_numbers::HIEROCRYPT3;
+use cipher_numbers::NOEKEON;
 ghost use mathlib.Core.Path.{_≡_};
 ghost use Rattle.blocks_lent.specs.Ways.{E, D, Lent, LegalWay};
 
@@ -31,7 +32,7 @@ pub fn enciphered(
     if way.cipher == E2 {
         return e2::encipher_with(sbox, keys, block);
     }
-    noekeon::encipher(keys, block)
+    noekeon::encipher_with(way.cipher == NOEKEON, table, keys, block)
 }
 
 // One block deciphered, with the tables lent.
@@ -51,5 +52,5 @@ pub fn deciphered(
     if way.cipher == E2 {
         return e2::decipher_with(sbox, keys, block);
     }
-    noekeon::decipher(keys, block)
+    noekeon::decipher_with(way.cipher == NOEKEON, table, keys, block)
 }

@@ -4,6 +4,7 @@ use blocks_lent::alone::run_with;
 use cipher_numbers::E2;
 use cipher_numbers::ENCIPHER;
 use cipher_numbers::HIEROCRYPT3;
+use cipher_numbers::NOEKEON;
 use hierocrypt3_tables::forward;
 use hierocrypt3_tables::inverse;
 ghost use mathlib.Core.Path.{_≡_};
@@ -37,5 +38,6 @@ pub fn run(keys: &[u8; 288], way: Way, input: &[u8], out: &mut [u8], n: usize)
         return;
     }
     let nothing = [0u8; 0];
-    run_with(&nothing, &none, keys, way, input, out, n);
+    let constants = noekeon::constants(way.cipher == NOEKEON);
+    run_with(&nothing, &constants, keys, way, input, out, n);
 }

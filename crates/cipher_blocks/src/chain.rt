@@ -4,6 +4,7 @@ use blocks_lent::chain::run_with;
 use cipher_numbers::E2;
 use cipher_numbers::ENCIPHER;
 use cipher_numbers::HIEROCRYPT3;
+use cipher_numbers::NOEKEON;
 use hierocrypt3_tables::forward;
 use hierocrypt3_tables::inverse;
 ghost use mathlib.Core.List.{_++_};
@@ -41,5 +42,6 @@ pub fn run(
         return run_with(&sbox, &none, keys, way, chain, first, rest, out, n);
     }
     let nothing = [0u8; 0];
-    run_with(&nothing, &none, keys, way, chain, first, rest, out, n)
+    let constants = noekeon::constants(way.cipher == NOEKEON);
+    run_with(&nothing, &constants, keys, way, chain, first, rest, out, n)
 }

@@ -1,4 +1,4 @@
--- The ciphers by number: 01, 'What is built' and 'The two records'. The one place where a number means a cipher.
+-- The ciphers by number: 01, 'What is built' and 'The two records', and 02, request 2. The one place where a number means a cipher.
 use mathlib.Core.Bool.{Bool, true, false, not}
 use mathlib.Core.List.{List, [], _∷_}
 use Prim.Native.Nat.{ℕ, _+_, _*_}
@@ -11,6 +11,7 @@ use Rattle.hierocrypt3.specs.Block as hierocrypt3-block
 use Rattle.hierocrypt3_keys.specs.Keys as hierocrypt3-keys
 use Rattle.e2.specs.Block as e2-block
 use Rattle.e2_keys.specs.Keys as e2-keys
+use Rattle.noekeon_steps.specs.Rule.{Rule, published, earlier}
 use Rattle.noekeon.specs.Noekeon as noekeon-block
 
 pub record Cipher : Type 0 where
@@ -41,13 +42,14 @@ e2 = record {
   decipher = λ len. e2-block.decipher;
 }
 
-abbrev pub noekeon : Cipher
-noekeon = record {
+-- under either of its rules
+abbrev pub noekeon : Rule → Cipher
+noekeon r = record {
   lengths = 16 ∷ [];
   used = λ len. 16;
   roundKeys = λ key. key;
-  encipher = λ len. noekeon-block.encipher;
-  decipher = λ len. noekeon-block.decipher;
+  encipher = λ len. noekeon-block.encipher r;
+  decipher = λ len. noekeon-block.decipher r;
 }
 
 -- no cipher has another number: no key length is legal for it
@@ -55,7 +57,11 @@ abbrev pub none : Cipher
 none = record { lengths = []; used = λ len. 0; roundKeys = λ key. []; encipher = λ len keys block. block; decipher = λ len keys block. block }
 
 unfoldable pub number : ℕ → Cipher
-number n = choose (eqb n 1) hierocrypt3 (choose (eqb n 2) e2 (choose (eqb n 3) noekeon none))
+number n =
+    choose (eqb n 1) hierocrypt3
+    (choose (eqb n 2) e2
+    (choose (eqb n 3) (noekeon published)
+    (choose (eqb n 4) (noekeon earlier) none)))
 
 -- a number is a cipher's if some key length is legal for it
 unfoldable pub isCipher : ℕ → Bool

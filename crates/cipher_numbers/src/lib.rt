@@ -1,4 +1,4 @@
-// Ciphers and directions by number (01, 'What is built'): their names in code, what is legal, and the round keys of a key.
+// Ciphers and directions by number (01, 'What is built'; 02, request 2): their names in code, what is legal, and the round keys of a key.
 ghost use mathlib.Core.Path.{_≡_};
 ghost use mathlib.Core.Bool.{true};
 ghost use mathlib.Core.List.{[], _∷_};
@@ -11,6 +11,8 @@ pub const HIEROCRYPT3: u64 = 1;
 pub const E2: u64 = 2;
 
 pub const NOEKEON: u64 = 3;
+
+pub const NOEKEON_EARLIER: u64 = 4;
 
 pub const ENCIPHER: u64 = 1;
 
@@ -25,7 +27,10 @@ pub fn is_cipher(cipher: u64) -> bool
     if cipher == E2 {
         return true;
     }
-    cipher == NOEKEON
+    if cipher == NOEKEON {
+        return true;
+    }
+    cipher == NOEKEON_EARLIER
 }
 
 // Is it a key length of the ciphers that have three?
@@ -52,6 +57,9 @@ pub fn is_length(cipher: u64, len: usize) -> bool
         return is_one_of_three(len);
     }
     if cipher == NOEKEON {
+        return len == 16;
+    }
+    if cipher == NOEKEON_EARLIER {
         return len == 16;
     }
     false

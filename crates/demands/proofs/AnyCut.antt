@@ -1,4 +1,4 @@
--- Demand 3 of every stream that start hands out, for the three ciphers, with nothing assumed but that start accepted. And what one stream enciphers another
+-- Demand 3 of every stream that start hands out, for every cipher, with nothing assumed but that start accepted. And what one stream enciphers another
 -- deciphers, however both are cut, and the reverse.
 use mathlib.Core.Path.{_≡_, refl, sym, ap, _∙_, subst}
 use mathlib.Core.Bool.{Bool, true, false, not}

@@ -43,7 +43,7 @@ module _ (c : ℕ) (key : List ℕ) (legal : isLength c (length key) ≡ true) w
     keys-words =
         by-number (λ k. Words 8 (k .roundKeys key))
         (words-each 8 _ _ (hierocrypt3-bytes.roundKeys-bytes (length key) key (record { long = refl; each = λ j h. word-at 8 key j small })))
-        (words-each 8 256 _ (e2-bytes.roundKeys-bytes key)) small c (length key) legal
+        (words-each 8 256 _ (e2-bytes.roundKeys-bytes key)) (λ b. small) c (length key) legal
 
     pub keys-bytes : Bytes 288 keys
     keys-bytes = each-tab Byte 0 288 (λ n. getD (number c .roundKeys key) n 0) (λ j h. word-at 8 (number c .roundKeys key) j keys-words)

@@ -46,7 +46,7 @@ keys-fit : (n : ℕ) (key : List ℕ) → isLength n (length key) ≡ true → l
 unfolding isLength
 keys-fit n key h =
     by-number (λ c. member (length key) (c .lengths) ≡ true → length (c .roundKeys key) ≤ c .used (length key))
-    (λ m. hierocrypt3-fit key) (λ m. e2-fit key) (λ m. let e = just-16 (length key) m in omega arith) n (length key) h h
+    (λ m. hierocrypt3-fit key) (λ m. e2-fit key) (λ b m. let e = just-16 (length key) m in omega arith) n (length key) h h
 
 pub set-up-good : (n : ℕ) (key : List ℕ) → isLength n (length key) ≡ true → bad (schedule n key) ≡ false
 unfolding bad schedule

@@ -12,6 +12,7 @@ use Rattle.hierocrypt3.specs.Block as hierocrypt3-block
 use Rattle.hierocrypt3_undo.proofs.Undo as hierocrypt3-undo
 use Rattle.e2.specs.Block as e2-block
 use Rattle.e2_undo.proofs.Undo as e2-undo
+use Rattle.noekeon_steps.specs.Rule.{Rule, rule}
 use Rattle.noekeon.specs.Noekeon as noekeon-block
 use Rattle.noekeon_undo.proofs.Undo as noekeon-undo
 use Rattle.cipher_numbers.proofs.Legal.{by-number}
@@ -26,7 +27,7 @@ block-inverse s g h =
     by-number (λ c. Inverse (Bytes 16) (c .encipher (s .«key_length») (s .«round_keys»)) (c .decipher (s .«key_length») (s .«round_keys»)))
     (hierocrypt3-undo.encipher-inverse (s .«key_length») (s .«round_keys») h)
     (e2-undo.encipher-inverse (s .«round_keys») h)
-    (noekeon-undo.encipher-inverse (s .«round_keys») (words-each 8 288 (s .«round_keys») h))
+    (λ b. noekeon-undo.encipher-inverse b (s .«round_keys») (words-each 8 288 (s .«round_keys») h))
     (s .cipher) (s .«key_length») (good-length s g)
 
 -- ---- 16 bytes, of any list
@@ -38,13 +39,13 @@ e2-long : (keys x : List ℕ) → length (e2-block.encipher keys x) ≡ 16
 unfolding e2-block.encipher e2-block.cipher e2-block.last
 e2-long keys x = refl
 
-noekeon-long : (keys x : List ℕ) → length (noekeon-block.encipher keys x) ≡ 16
+noekeon-long : (r : Rule) (keys x : List ℕ) → length (noekeon-block.encipher r keys x) ≡ 16
 unfolding noekeon-block.encipher
-noekeon-long keys x = refl
+noekeon-long r keys x = refl
 
 pub enciphered-long : (s : Schedule) → bad s ≡ false → (x : List ℕ) → length (enciphered s x) ≡ 16
 unfolding enciphered
 enciphered-long s g x =
     by-number (λ c. length (c .encipher (s .«key_length») (s .«round_keys») x) ≡ 16)
-    (hierocrypt3-long (s .«key_length») (s .«round_keys») x) (e2-long (s .«round_keys») x) (noekeon-long (s .«round_keys») x)
+    (hierocrypt3-long (s .«key_length») (s .«round_keys») x) (e2-long (s .«round_keys») x) (λ b. noekeon-long (rule b) (s .«round_keys») x)
     (s .cipher) (s .«key_length») (good-length s g)

@@ -156,4 +156,5 @@ fn main() {
     cases(1);
     cases(2);
     cases(3);
+    cases(4);
 }

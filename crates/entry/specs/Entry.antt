@@ -30,7 +30,7 @@ pub record WorksForC (cipher direction : ℕ) (key block o : List ℕ) (r : ℕ)
 
 -- ---- the version: another number for another meaning of the call or its answers
 abbrev pub version : ℕ
-version = 1
+version = 2
 
 pub record TellsVersion (r : ℕ) : Type 0 where
   pub returned : r ≡ version

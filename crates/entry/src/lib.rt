@@ -44,5 +44,5 @@ pub extern "C" fn tlilcueyoh_block(
 pub extern "C" fn tlilcueyoh_version() -> u64
     ensures { λ r. ⌜ TellsVersion r ⌝ }
 {
-    1
+    2
 }

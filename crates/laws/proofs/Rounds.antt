@@ -2,7 +2,7 @@
 use mathlib.Core.Path.{_≡_, refl, sym, ap, _∙_}
 use mathlib.Core.List.{List}
 use Prim.Native.Nat.{ℕ, zero, suc, _+_, _-_, _≤_, _<_}
-use native.Mathlib.Nat.{le-suc, le-trans}
+use native.Mathlib.Nat.{le-suc, le-trans, suc-sub-suc, sub-zero}
 use native.Mathlib.Numerals.{add-one}
 use native.Mathlib.Omega.{arith}
 use Rattle.laws.specs.Places.{tab}
@@ -51,29 +51,48 @@ module _ {A : Type 0} where
 
 pub ruleset loops = (steps-start, steps-step, back-start, back-step, back-end)
 
--- ---- rounds that undo themselves: m undoes m, and u undoes t. n rounds m (t a) with t at the end are undone by n rounds m (u a) with u at the end
-module _ {A : Type 0} (P : A → Type 0) (m t u : A → A) (m-keeps : (a : A) → P a → P (m a)) (t-keeps : (a : A) → P a → P (t a))
-    (m-m : (a : A) → P a → m (m a) ≡ a) (u-t : (a : A) → P a → u (t a) ≡ a) where
-  rounds-keep : (n : ℕ) (a : A) → P a → P (steps n (λ i q. m (t q)) a)
-  rounds-keep n = steps-keep P n (λ i q. m (t q)) (λ i a l p. m-keeps (t a) (t-keeps a p))
+-- ---- rounds that undo themselves: m undoes m, and u i undoes t i. n rounds m (t i a), with t n at the end, are undone by n rounds that take the u backwards,
+-- m (u (n - i) a), with u 0 at the end
+module _ {A : Type 0} (P : A → Type 0) (m : A → A) (t u : ℕ → A → A) (m-keeps : (a : A) → P a → P (m a)) (m-m : (a : A) → P a → m (m a) ≡ a) where
+  abbrev rounds : ℕ → A → A
+  rounds n a = steps n (λ i q. m (t i q)) a
 
-  -- which of equal rounds comes first does not matter
-  shift : (n : ℕ) (a : A) → steps n (λ i q. m (u q)) (m (u a)) ≡ steps (suc n) (λ i q. m (u q)) a
-  shift zero a = refl
-  shift (suc n) a = ap (λ (q : A). m (u q)) (shift n a)
+  abbrev rounds⁻ : ℕ → A → A
+  rounds⁻ n a = steps n (λ i q. m (u (n - i) q)) a
 
-  half-way : (n : ℕ) (a : A) → P a → steps n (λ i q. m (u q)) (t (steps n (λ i q. m (t q)) a)) ≡ t a
-  half-way zero a p = refl
-  half-way (suc n) a p =
-      let y : A = steps n (λ i q. m (t q)) a in
-      let py : P y = rounds-keep n a p in
-      sym (shift n (t (m (t y))))
-      ∙ ap (λ (q : A). steps n (λ i r. m (u r)) (m q)) (u-t (m (t y)) (m-keeps (t y) (t-keeps y py)))
-      ∙ ap (steps n (λ i q. m (u q))) (m-m (t y) (t-keeps y py))
-      ∙ half-way n a p
+  -- the first of the rounds backwards, and the others
+  rounds⁻-front : (n : ℕ) (a : A) → rounds⁻ (suc n) a ≡ rounds⁻ n (m (u (suc n) a))
+  rounds⁻-front n a =
+      steps-front n (λ i q. m (u (suc n - i) q)) a
+      ∙ (λ i. steps n (λ j q. m (u (suc-sub-suc n j i) q)) (m (u (sub-zero (suc n) i) a)))
 
-  pub mirrored-undo : (n : ℕ) (a : A) → P a → u (steps n (λ i q. m (u q)) (t (steps n (λ i q. m (t q)) a))) ≡ a
-  mirrored-undo n a p = ap u (half-way n a p) ∙ u-t a p
+  module _ (t-keeps : (i : ℕ) (a : A) → P a → P (t i a)) (u-t : (i : ℕ) (a : A) → P a → u i (t i a) ≡ a) where
+    half-way : (n : ℕ) (a : A) → P a → rounds⁻ n (t n (rounds n a)) ≡ t 0 a
+    half-way zero a p = refl
+    half-way (suc n) a p =
+        let y : A = rounds n a in
+        let py : P y = steps-keep P n (λ i q. m (t i q)) (λ i b l q. m-keeps (t i b) (t-keeps i b q)) a p in
+        rounds⁻-front n (t (suc n) (m (t n y)))
+        ∙ ap (λ (q : A). rounds⁻ n (m q)) (u-t (suc n) (m (t n y)) (m-keeps (t n y) (t-keeps n y py)))
+        ∙ ap (rounds⁻ n) (m-m (t n y) (t-keeps n y py))
+        ∙ half-way n a p
+
+    pub mirrored-undo : (n : ℕ) (a : A) → P a → u 0 (rounds⁻ n (t n (rounds n a))) ≡ a
+    mirrored-undo n a p = ap (u 0) (half-way n a p) ∙ u-t 0 a p
+
+  module _ (u-keeps : (i : ℕ) (a : A) → P a → P (u i a)) (t-u : (i : ℕ) (a : A) → P a → t i (u i a) ≡ a) where
+    half-way-back : (n : ℕ) (a : A) → P a → rounds n (u 0 (rounds⁻ n a)) ≡ u n a
+    half-way-back zero a p = refl
+    half-way-back (suc n) a p =
+        let y : A = m (u (suc n) a) in
+        let py : P y = m-keeps (u (suc n) a) (u-keeps (suc n) a p) in
+        ap (λ (q : A). rounds (suc n) (u 0 q)) (rounds⁻-front n a)
+        ∙ ap (λ (q : A). m (t n q)) (half-way-back n y py)
+        ∙ ap m (t-u n y py)
+        ∙ m-m (u (suc n) a) (u-keeps (suc n) a p)
+
+    pub mirrored-redo : (n : ℕ) (a : A) → P a → t n (rounds n (u 0 (rounds⁻ n a))) ≡ a
+    mirrored-redo n a p = ap (t n) (half-way-back n a p) ∙ t-u n a p
 
 -- ---- rounds over a table of keys are rounds by their numbers
 pub run-tab : {A K : Type 0} (f : K → A → A) (n : ℕ) (k : ℕ → K) (a : A) → run f (tab n k) a ≡ steps n (λ i. f (k i)) a

@@ -3,11 +3,15 @@
 use mathlib.Core.Path.{_≡_, refl, sym, ap, ap₂, _∙_}
 use mathlib.Core.Bool.{Bool, true, false}
 use mathlib.Core.List.{List, [], _∷_, map}
-use Prim.Native.Nat.{ℕ, zero, suc}
+use Prim.Native.Nat.{ℕ, zero, suc, _%_, _^_}
+use native.Mathlib.Nat.{mod-lt, mod-eq-of-lt}
 use lib.Dec.{T}
+use lib.Pow.{pow-pos}
 use lib.ListN.{getD}
-use lib.Bits.{bitXor, xor-self, xor-zero-r}
+use lib.Bits.{bitXor, xor-self, xor-zero-r, xor-mod, xor-lt}
+use Rattle.laws.specs.Bytes.{Word}
 use Rattle.laws.proofs.Xor.{xor-cancel-r, xor-swap}
+use Rattle.laws.proofs.Words.{Words, word-at}
 use Rattle.laws.proofs.Test.{both, both-left, both-right, zipTest, zip-equal}
 
 pub data Sum : Type 0 where
@@ -154,3 +158,29 @@ module _ (s : ℕ → ℕ) (hs : (x y : ℕ) → s (bitXor x y) ≡ bitXor (s x)
 
   pub solve-lists : (xs : List ℕ) (es fs : List (List Sum)) → T (zipTest (zipTest balanced) es fs) → map (map (value s xs)) es ≡ map (map (value s xs)) fs
   solve-lists xs = zip-equal (zipTest balanced) (map (value s xs)) (solve-list xs)
+
+-- ---- the same on words, of an s that is additive on words of w bits and stays among them
+module _ (w : ℕ) (s : ℕ → ℕ) (adds : (x y : ℕ) → Word w x → Word w y → s (bitXor x y) ≡ bitXor (s x) (s y)) (keeps : (x : ℕ) → Word w x → Word w (s x)) where
+  -- s of what is left modulo 2^w is additive on all numbers
+  cut : ℕ → ℕ
+  cut x = s (x % 2 ^ w)
+
+  cut-adds : (x y : ℕ) → cut (bitXor x y) ≡ bitXor (cut x) (cut y)
+  unfolding cut
+  cut-adds x y = ap s (xor-mod x y w) ∙ adds (x % 2 ^ w) (y % 2 ^ w) (mod-lt x (pow-pos w)) (mod-lt y (pow-pos w))
+
+  value-lt : (xs : List ℕ) → Words w xs → (e : Sum) → Word w (value s xs e)
+  value-lt xs h (at i) = word-at w xs i h
+  value-lt xs h zer = pow-pos w
+  value-lt xs h (op e) = keeps (value s xs e) (value-lt xs h e)
+  value-lt xs h (e ⊕ f) = xor-lt w (value s xs e) (value s xs f) (value-lt xs h e) (value-lt xs h f)
+
+  value-cut : (xs : List ℕ) → Words w xs → (e : Sum) → value s xs e ≡ value cut xs e
+  unfolding cut
+  value-cut xs h (at i) = refl
+  value-cut xs h zer = refl
+  value-cut xs h (op e) = ap s (sym (mod-eq-of-lt (value-lt xs h e))) ∙ ap cut (value-cut xs h e)
+  value-cut xs h (e ⊕ f) = ap₂ bitXor (value-cut xs h e) (value-cut xs h f)
+
+  pub solve-words : (e f : Sum) (xs : List ℕ) → Words w xs → T (balanced e f) → value s xs e ≡ value s xs f
+  solve-words e f xs h t = value-cut xs h e ∙ solve cut cut-adds e f xs t ∙ sym (value-cut xs h f)

@@ -17,4 +17,4 @@ inverse-of-3 = odd-inverse-computes 31 3
 pub marked-cases : Hold cases
 unfolding cases product power hierocrypt3.s hierocrypt3.permuteBits hierocrypt3-keys.P hierocrypt3.mdsL e2-table.s e2.BRL e2.BP e2.P
 marked-cases =
-    (refl, (refl, (refl, (refl, (ap (λ (n : ℕ). n ∷ []) inverse-of-3, (refl, (refl, (refl, (refl, (refl, (refl, (refl, (refl, tt)))))))))))))
+    (refl, (refl, (refl, (refl, (ap (λ (n : ℕ). n ∷ []) inverse-of-3, (refl, (refl, (refl, (refl, (refl, (refl, (refl, (refl, (refl, tt))))))))))))))

@@ -1,11 +1,12 @@
 -- 01, 'Marked cases': one table, in its order and with its names, of what the definitions give and what they shall give; a case is a number or a list of them.
+-- C13 is that of 02, request 2, and speaks of number 3; 01's own stands behind it, for number 4.
 use mathlib.Core.Path.{_≡_}
 use mathlib.Core.List.{List, [], _∷_}
 use Prim.Native.Nat.{ℕ}
 use Rattle.laws.specs.Places.{tab}
 use Rattle.noekeon_steps.specs.declared.Quad.{Quad}
-use Rattle.noekeon_steps.specs.Steps.{S, θ, γ}
-use Rattle.noekeon.specs.Noekeon.{zeroKey}
+use Rattle.noekeon_steps.specs.Rule.{published, earlier}
+use Rattle.noekeon_steps.specs.Steps.{θ, zeroKey, γ}
 use Rattle.e2_table.specs.Substitution as e2-table
 use Rattle.e2_steps.specs.Steps as e2
 use Rattle.hierocrypt3_tables.specs.Operations as hierocrypt3
@@ -31,6 +32,7 @@ pub data Name : Type 0 where
   C11 : Name
   C12 : Name
   C13 : Name
+  C13-earlier : Name
 
 unfoldable pub cases : List (Name × List ℕ × List ℕ)
 cases =
@@ -46,7 +48,8 @@ cases =
     ∷ (C10, hierocrypt3-keys.P 1 (1 ∷ 2 ∷ 4 ∷ 8 ∷ []), 5 ∷ 10 ∷ 14 ∷ 13 ∷ [])
     ∷ (C11, hierocrypt3.mdsL (0x01 ∷ 0 ∷ 0 ∷ 0 ∷ []), 0xc4 ∷ 0x8b ∷ 0xc8 ∷ 0x65 ∷ [])
     ∷ (C12, listed (γ (quad 0 0 0 0)), 0xffffffff ∷ 0xffffffff ∷ 0xffffffff ∷ 0 ∷ [])
-    ∷ (C13, listed (θ S zeroKey (quad 1 0 0 0)), 1 ∷ 0x101 ∷ 0 ∷ 0x101 ∷ [])
+    ∷ (C13, listed (θ published zeroKey (quad 1 0 0 0)), 1 ∷ 0x1000101 ∷ 0 ∷ 0x1000101 ∷ [])
+    ∷ (C13-earlier, listed (θ earlier zeroKey (quad 1 0 0 0)), 1 ∷ 0x101 ∷ 0 ∷ 0x101 ∷ [])
     ∷ []
 
 -- every case gives what it shall

@@ -1,35 +1,98 @@
-// Noekeon, direct key (003): one block both ways, on four words of 32 bits by value, and the round keys.
+// Noekeon, direct key (003; 02, request 2): one block both ways under one of its two rules, on four words of 32 bits by value, and the round keys.
 ghost use mathlib.Core.Path.{_≡_};
 ghost use Prim.Native.Nat.{_≤_, _<_};
 ghost use lib.ListN.{length, getD};
 ghost use Rattle.laws.specs.Places.{tab};
-ghost use Rattle.noekeon_steps.specs.Steps.{S, θ};
-ghost use Rattle.noekeon.specs.Noekeon.{round, cipher, zeroKey, load, store, encipher, decipher};
+ghost use Rattle.noekeon_steps.specs.Rule.{Rule, rule};
+ghost use Rattle.noekeon_steps.specs.Steps.{firstXored, θ, zeroKey};
+ghost use Rattle.noekeon.specs.Noekeon.{mixed, cipher, cipher⁻, load, store, encipher, decipher};
 use noekeon_steps::Quad;
 use noekeon_steps::gamma;
 use noekeon_steps::pi1;
 use noekeon_steps::pi2;
 use noekeon_steps::theta;
+use noekeon_steps::theta_then_constant;
 use words::word::put;
 use words::word::word_at;
 
-fn round_of(k: Quad, p: Quad) -> Quad
-    ensures { λ r. ⌜ r ≡ round S k p ⌝ }
+// What the first word is xored with, of the published rule.
+const CONSTANTS: [u32; 17] = [
+    0x80,
+    0x1b,
+    0x36,
+    0x6c,
+    0xd8,
+    0xab,
+    0x4d,
+    0x9a,
+    0x2f,
+    0x5e,
+    0xbc,
+    0x63,
+    0xc6,
+    0x97,
+    0x35,
+    0x6a,
+    0xd4,
+];
+
+// A rule's constants, to be lent. The earlier one has zeros.
+pub fn constants(published: bool) -> [u32; 17]
+    ensures { λ r. ⌜ r ≡ rule published .constants ⌝ }
 {
-    pi2(gamma(pi1(theta(k, p))))
+    if published {
+        return CONSTANTS;
+    }
+    [0u32; 17]
 }
 
-// The sixteen rounds and the last θ, under a working key.
-fn work(k: Quad, p: Quad) -> Quad
-    ensures { λ r. ⌜ r ≡ cipher S k p ⌝ }
+// What follows θ in a round.
+fn mix(p: Quad) -> Quad
+    ensures { λ r. ⌜ r ≡ mixed p ⌝ }
+{
+    pi2(gamma(pi1(p)))
+}
+
+fn constant_then_theta(published: bool, c: u32, k: Quad, p: Quad) -> Quad
+    ensures { λ r. ⌜ r ≡ θ (rule published) k (firstXored c p) ⌝ }
+{
+    let q = Quad {
+        p0: p.p0 ^ c,
+        p1: p.p1,
+        p2: p.p2,
+        p3: p.p3,
+    };
+    theta(published, k, q)
+}
+
+// The sixteen rounds and the last θ.
+fn forth(published: bool, constants: &[u32], k: Quad, p: Quad) -> Quad
+    requires { ⌜ now constants ≡ rule published .constants ⌝ }
+    ensures { λ r. ⌜ r ≡ cipher (rule published) k p ⌝ }
 {
     let mut q = p;
     let mut i: usize = 0;
     while i < 16 {
-        q = round_of(k, q);
+        q = mix(constant_then_theta(published, constants[i], k, q));
         i += 1;
     }
-    theta(k, q)
+    constant_then_theta(published, constants[16], k, q)
+}
+
+// The same under θ(0, K), with the constants backwards. The next one is read a round ahead, so that nothing waits for it.
+fn back(published: bool, constants: &[u32], k: Quad, p: Quad) -> Quad
+    requires { ⌜ now constants ≡ rule published .constants ⌝ }
+    ensures { λ r. ⌜ r ≡ cipher⁻ (rule published) (θ (rule published) zeroKey k) p ⌝ }
+{
+    let mut q = p;
+    let mut c = constants[16];
+    let mut j: usize = 0;
+    while j < 16 {
+        q = mix(theta_then_constant(published, k, q, c));
+        j += 1;
+        c = constants[16 - j];
+    }
+    theta_then_constant(published, k, q, c)
 }
 
 // Four words, of a block or of K at the front of the round keys.
@@ -56,38 +119,35 @@ fn store(p: Quad) -> [u8; 16]
     r
 }
 
-// The working key to decipher with: θ(0, K).
-fn decipher_key(keys: &[u8; 288]) -> Quad
-    ensures { λ r. ⌜ r ≡ θ S zeroKey (load (now (keys .entry))) ⌝ }
-{
-    let zero = Quad {
-        p0: 0,
-        p1: 0,
-        p2: 0,
-        p3: 0,
-    };
-    theta(zero, load(keys))
-}
-
-// One block under a working key.
-fn block_with(k: Quad, block: [u8; 16]) -> [u8; 16]
-    ensures { λ r. ⌜ r ≡ store (cipher S k (load block)) ⌝ }
+// One block, with the rule's constants lent.
+pub fn encipher_with(
+    published: bool,
+    constants: &[u32],
+    keys: &[u8; 288],
+    block: [u8; 16],
+) -> [u8; 16]
+    requires { ⌜ now constants ≡ rule published .constants ⌝ }
+    ensures { λ r. ⌜ r ≡ encipher (rule published) (now (keys .entry)) block ⌝ }
 {
     let p = load(&block);
-    let q = work(k, p);
+    let k = load(keys);
+    let q = forth(published, constants, k, p);
     store(q)
 }
 
-pub fn encipher(keys: &[u8; 288], block: [u8; 16]) -> [u8; 16]
-    ensures { λ r. ⌜ r ≡ encipher (now (keys .entry)) block ⌝ }
+pub fn decipher_with(
+    published: bool,
+    constants: &[u32],
+    keys: &[u8; 288],
+    block: [u8; 16],
+) -> [u8; 16]
+    requires { ⌜ now constants ≡ rule published .constants ⌝ }
+    ensures { λ r. ⌜ r ≡ decipher (rule published) (now (keys .entry)) block ⌝ }
 {
-    block_with(load(keys), block)
-}
-
-pub fn decipher(keys: &[u8; 288], block: [u8; 16]) -> [u8; 16]
-    ensures { λ r. ⌜ r ≡ decipher (now (keys .entry)) block ⌝ }
-{
-    block_with(decipher_key(keys), block)
+    let p = load(&block);
+    let k = load(keys);
+    let q = back(published, constants, k, p);
+    store(q)
 }
 
 // How many bytes of the key have room in the round keys.

@@ -1,24 +1,33 @@
--- Noekeon's steps: 003, in its names and order; 01 ('Noekeon') repairs nothing. A block P and a key K are four words of 32 bits, P0 P1 P2 P3 and
--- K0 K1 K2 K3. θ is written over any S, so that another S is another Noekeon.
-use Prim.Native.Nat.{ℕ, _-_, _*_, _/_, _%_, _^_}
+-- Noekeon's steps: 003, in its names and order. A block P and a key K are four words of 32 bits, P0 P1 P2 P3 and K0 K1 K2 K3. S and so θ go by a rule; γ, π1 and
+-- π2 are the same in both Noekeons.
+use Prim.Native.Nat.{ℕ, _-_, _^_}
 use lib.Bits.{bitAnd, bitOr, bitXor}
 use Rattle.laws.specs.Turn.{rol, ror}
+use Rattle.noekeon_steps.specs.Rule.{Rule}
 use Rattle.noekeon_steps.specs.declared.Quad.{Quad}
 
 -- ---- θ
--- S(t): t := t ⊕ shr8 t ⊕ shl8 t, both plain shifts within the word
-abbrev pub S : ℕ → ℕ
-S t = bitXor (bitXor t (t / 2 ^ 8)) (t * 2 ^ 8 % 2 ^ 32)
+-- S(t): t := t ⊕ shr8 t ⊕ shl8 t, with the rule's shifts
+abbrev pub S : Rule → ℕ → ℕ
+S r t = bitXor (bitXor t (r .right8 t)) (r .left8 t)
 
-abbrev pub θ : (ℕ → ℕ) → Quad → Quad → Quad
-θ s k p =
-    let t = s (bitXor (p .p0) (p .p2)) in
+abbrev pub θ : Rule → Quad → Quad → Quad
+θ r k p =
+    let t = S r (bitXor (p .p0) (p .p2)) in
     let q1 = bitXor (bitXor (p .p1) t) (k .p1) in
     let q3 = bitXor (bitXor (p .p3) t) (k .p3) in
     let q0 = bitXor (p .p0) (k .p0) in
     let q2 = bitXor (p .p2) (k .p2) in
-    let u = s (bitXor q1 q3) in
+    let u = S r (bitXor q1 q3) in
     record { p0 = bitXor q0 u; p1 = q1; p2 = bitXor q2 u; p3 = q3 }
+
+-- the key 0
+abbrev pub zeroKey : Quad
+zeroKey = record { p0 = 0; p1 = 0; p2 = 0; p3 = 0 }
+
+-- ---- the first word xored with a constant (02, request 2)
+abbrev pub firstXored : ℕ → Quad → Quad
+firstXored c p = record { p0 = bitXor (p .p0) c; p1 = p .p1; p2 = p .p2; p3 = p .p3 }
 
 -- ---- γ, with ¬ as inverted
 abbrev pub inverted : ℕ → ℕ

@@ -1,6 +1,7 @@
-// Noekeon's steps (003) on four words of 32 bits by value: θ, γ, π1 and π2.
+// Noekeon's steps (003) on four words of 32 bits by value: θ, γ, π1 and π2. θ is that of one of the two rules: the published one, or the earlier one.
 ghost use mathlib.Core.Path.{_≡_};
-ghost use Rattle.noekeon_steps.specs.Steps.{S, θ, γ, π1, π2};
+ghost use Rattle.noekeon_steps.specs.Rule.{rule};
+ghost use Rattle.noekeon_steps.specs.Steps.{S, θ, zeroKey, firstXored, γ, π1, π2};
 use words::word::rotated;
 
 pub struct Quad {
@@ -10,25 +11,54 @@ pub struct Quad {
     pub p3: u32,
 }
 
-// S of θ.
-fn spread(t: u32) -> u32
-    ensures { λ r. ⌜ r ≡ S t ⌝ }
+// S of θ: by rotations, or by plain shifts.
+fn spread(published: bool, t: u32) -> u32
+    ensures { λ r. ⌜ r ≡ S (rule published) t ⌝ }
 {
+    if published {
+        return t ^ rotated(t, 24) ^ rotated(t, 8);
+    }
     t ^ (t >> 8) ^ (t << 8)
 }
 
-pub fn theta(k: Quad, p: Quad) -> Quad
-    ensures { λ r. ⌜ r ≡ θ S k p ⌝ }
+// S once more, as published in one instruction less but by a longer way: for the one of θ's two that nothing waits for.
+fn spread_aside(published: bool, t: u32) -> u32
+    ensures { λ r. ⌜ r ≡ S (rule published) t ⌝ }
 {
-    let t = spread(p.p0 ^ p.p2);
+    if published {
+        return t ^ rotated(t ^ rotated(t, 16), 24);
+    }
+    spread(published, t)
+}
+
+pub fn theta(published: bool, k: Quad, p: Quad) -> Quad
+    ensures { λ r. ⌜ r ≡ θ (rule published) k p ⌝ }
+{
+    let t = spread(published, p.p0 ^ p.p2);
     let q1 = p.p1 ^ t ^ k.p1;
     let q3 = p.p3 ^ t ^ k.p3;
-    let u = spread(q1 ^ q3);
+    let u = spread_aside(published, q1 ^ q3);
     Quad {
         p0: p.p0 ^ k.p0 ^ u,
         p1: q1,
         p2: p.p2 ^ k.p2 ^ u,
         p3: q3,
+    }
+}
+
+// θ under θ(0, K), by K alone, which is 003's θ⁻¹, and then a constant: a step of deciphering.
+pub fn theta_then_constant(published: bool, k: Quad, p: Quad, c: u32) -> Quad
+    ensures { λ r. ⌜ r ≡ firstXored c (θ (rule published) (θ (rule published) zeroKey k) p) ⌝ }
+{
+    let t = spread_aside(published, p.p1 ^ p.p3);
+    let q0 = p.p0 ^ t ^ k.p0;
+    let q2 = p.p2 ^ t ^ k.p2;
+    let u = spread(published, q0 ^ q2);
+    Quad {
+        p0: q0 ^ c,
+        p1: p.p1 ^ k.p1 ^ u,
+        p2: q2,
+        p3: p.p3 ^ k.p3 ^ u,
     }
 }
 

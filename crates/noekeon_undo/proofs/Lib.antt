@@ -1,1 +1,2 @@
 pub mod Undo
+pub mod Printed

@@ -1,35 +1,27 @@
--- Deciphering undoes enciphering and the reverse, for all keys (003). θ is undone by θ with θ(0, K) in the place of K, for any S that is additive; γ undoes
--- itself; π1 and π2 undo one another.
-use mathlib.Core.Path.{_≡_, refl, ap, ap₂, _∙_}
-use mathlib.Core.List.{List, [], _∷_}
-use Prim.Native.Nat.{ℕ, _*_, _/_, _%_, _^_}
-use native.Mathlib.Nat.{lt-of-le-of-lt, mod-lt}
-use lib.Pow.{pow-pos, shr-le}
+-- Deciphering undoes enciphering and the reverse, for all keys (003; 02, request 2): one proof for every rule whose shifts are additive and stay within the word and
+-- whose constants are words. θ is undone by θ with θ(0, K) in the place of K, and a constant by itself; γ undoes itself; π1 and π2 undo one another.
+use mathlib.Core.Path.{_≡_, refl, ap, _∙_}
+use mathlib.Core.Bool.{Bool}
+use mathlib.Core.List.{List}
+use Prim.Native.Nat.{ℕ, _-_}
+use lib.Pow.{pow-pos}
 use lib.ListN.{getD}
-use lib.Bits.{bitXor, xor-lt, xor-shr}
-use Rattle.laws.specs.Bytes.{Word, Bytes}
+use Rattle.laws.specs.Bytes.{Bytes}
 use Rattle.laws.specs.Rounds.{steps}
 use Rattle.laws.specs.Inverse.{Inverse}
-use Rattle.laws.proofs.Xor.{xor-shl-word, xor-swap}
-use Rattle.laws.proofs.Words.{Words, words-each, each-words}
+use Rattle.laws.proofs.Xor.{xor-cancel-r}
+use Rattle.laws.proofs.Words.{Words, word-at, words-each, each-words}
 use Rattle.laws.proofs.BigEndian.{wordAt-lt, wordsOf-bytesOf, bytesOf-wordsOf, bytesOf-bytes}
 use Rattle.laws.proofs.Turn.{turn-lt, turn-undo}
 use Rattle.laws.proofs.Bitwise.{Expr, by-bits, eval-lt}
 use Rattle.laws.proofs.Bitwise.Expr.{var, not, and, or, xor}
-use Rattle.laws.proofs.Sums.{Sum, solve}
-use Rattle.laws.proofs.Sums.Sum.{at, zer, op, _⊕_}
-use Rattle.laws.proofs.Rounds.{steps-keep, mirrored-undo}
+use Rattle.laws.proofs.Rounds.{steps-keep, mirrored-undo, mirrored-redo}
 use Rattle.laws.proofs.Inverse.{carried}
 use Rattle.noekeon_steps.specs.declared.Quad.{Quad}
-use Rattle.noekeon_steps.specs.Steps.{S, θ, γ, π1, π2}
-use Rattle.noekeon.specs.Noekeon.{round, cipher, zeroKey, load, store, encipher, decipher}
-
--- ---- four words of 32 bits
-abbrev pub wordList : Quad → List ℕ
-wordList p = p .p0 ∷ p .p1 ∷ p .p2 ∷ p .p3 ∷ []
-
-abbrev pub Good : Quad → Type 0
-Good p = Words 32 (wordList p)
+use Rattle.noekeon_steps.specs.Rule.{Rule, rule}
+use Rattle.noekeon_steps.specs.Steps.{firstXored, θ, zeroKey, γ, π1, π2}
+use Rattle.noekeon_steps.proofs.Linear.{wordList, Good, Sound, sound, xor32, θ-undo, θ-redo, θ-good}
+use Rattle.noekeon.specs.Noekeon.{constant, mixed, round, cipher, round⁻, cipher⁻, load, store, encipher, decipher}
 
 -- ---- γ, as expressions whose identities the bits decide
 record Quad·e : Type 0 where
@@ -90,109 +82,69 @@ pub π1-π2 : (p : Quad) → Good p → π1 (π2 p) ≡ p
 }
 
 -- ---- what follows θ in a round undoes itself
-abbrev mix : Quad → Quad
-mix p = π2 (γ (π1 p))
+mixed-good : (p : Quad) → Good p → Good (mixed p)
+mixed-good p h = π2-good (γ (π1 p)) (γ-good (π1 p) (π1-good p h))
 
-mix-good : (p : Quad) → Good p → Good (mix p)
-mix-good p h = π2-good (γ (π1 p)) (γ-good (π1 p) (π1-good p h))
-
-mix-mix : (p : Quad) → Good p → mix (mix p) ≡ p
-mix-mix p h =
+mixed-mixed : (p : Quad) → Good p → mixed (mixed p) ≡ p
+mixed-mixed p h =
     let h₁ : Good (π1 p) = π1-good p h in
     ap (λ (q : Quad). π2 (γ q)) (π1-π2 (γ (π1 p)) (γ-good (π1 p) h₁)) ∙ ap π2 (γ-γ (π1 p) h₁) ∙ π2-π1 p h
 
--- ---- θ, as sums that `solve` balances, for any S that is additive and stays within the word
-record Quad·s : Type 0 where
-  s0 : Sum
-  s1 : Sum
-  s2 : Sum
-  s3 : Sum
-
-θ·s : Quad·s → Quad·s → Quad·s
-θ·s k p =
-    let t = op (p .s0 ⊕ p .s2) in
-    let q1 = p .s1 ⊕ t ⊕ k .s1 in
-    let q3 = p .s3 ⊕ t ⊕ k .s3 in
-    let u = op (q1 ⊕ q3) in
-    record { s0 = p .s0 ⊕ k .s0 ⊕ u; s1 = q1; s2 = p .s2 ⊕ k .s2 ⊕ u; s3 = q3 }
-
-P·s : Quad·s
-P·s = record { s0 = at 0; s1 = at 1; s2 = at 2; s3 = at 3 }
-
-K·s : Quad·s
-K·s = record { s0 = at 4; s1 = at 5; s2 = at 6; s3 = at 7 }
-
-zero·s : Quad·s
-zero·s = record { s0 = zer; s1 = zer; s2 = zer; s3 = zer }
-
-abbrev values : Quad → Quad → List ℕ
-values p k = p .p0 ∷ p .p1 ∷ p .p2 ∷ p .p3 ∷ k .p0 ∷ k .p1 ∷ k .p2 ∷ k .p3 ∷ []
-
-module _ (s : ℕ → ℕ) (s-adds : (x y : ℕ) → s (bitXor x y) ≡ bitXor (s x) (s y)) (s-lt : (x : ℕ) → Word 32 x → Word 32 (s x)) where
-  pub θ-undo : (k p : Quad) → θ s (θ s zeroKey k) (θ s k p) ≡ p
-  unfolding θ·s P·s K·s zero·s
-  θ-undo k p =
-      let q : Quad·s = θ·s (θ·s zero·s K·s) (θ·s K·s P·s) in
-      λ i. record {
-        p0 = solve s s-adds (q .s0) (at 0) (values p k) tt i;
-        p1 = solve s s-adds (q .s1) (at 1) (values p k) tt i;
-        p2 = solve s s-adds (q .s2) (at 2) (values p k) tt i;
-        p3 = solve s s-adds (q .s3) (at 3) (values p k) tt i;
-      }
-
-  pub θ-redo : (k p : Quad) → θ s k (θ s (θ s zeroKey k) p) ≡ p
-  unfolding θ·s P·s K·s zero·s
-  θ-redo k p =
-      let q : Quad·s = θ·s K·s (θ·s (θ·s zero·s K·s) P·s) in
-      λ i. record {
-        p0 = solve s s-adds (q .s0) (at 0) (values p k) tt i;
-        p1 = solve s s-adds (q .s1) (at 1) (values p k) tt i;
-        p2 = solve s s-adds (q .s2) (at 2) (values p k) tt i;
-        p3 = solve s s-adds (q .s3) (at 3) (values p k) tt i;
-      }
-
-  xor32 : {a b : ℕ} → Word 32 a → Word 32 b → Word 32 (bitXor a b)
-  xor32 {a} {b} h l = xor-lt 32 a b h l
-
-  pub θ-good : (k p : Quad) → Good k → Good p → Good (θ s k p)
-  θ-good k p g h =
-      let t = s-lt (bitXor (p .p0) (p .p2)) (xor32 (h .0) (h .1 .1 .0)) in
-      let q1 = xor32 (xor32 (h .1 .0) t) (g .1 .0) in
-      let q3 = xor32 (xor32 (h .1 .1 .1 .0) t) (g .1 .1 .1 .0) in
-      let u = s-lt _ (xor32 q1 q3) in
-      (xor32 (xor32 (h .0) (g .0)) u, (q1, (xor32 (xor32 (h .1 .1 .0) (g .1 .1 .0)) u, (q3, tt))))
-
+module _ (r : Rule) (s : Sound r) where
   zero-good : Good zeroKey
   zero-good = (pow-pos 32, (pow-pos 32, (pow-pos 32, (pow-pos 32, tt))))
 
-  -- ---- the cipher on words
-  cipher-good : (k p : Quad) → Good k → Good p → Good (cipher s k p)
-  unfolding cipher round
-  cipher-good k p g h =
-      θ-good k (steps 16 (λ i q. round s k q) p) g
-      (steps-keep Good 16 (λ i q. round s k q) (λ i q l w. mix-good (θ s k q) (θ-good k q g w)) p h)
+  -- ---- a constant and θ, and θ under another key and the constant
+  xored-good : (i : ℕ) (p : Quad) → Good p → Good (firstXored (constant r i) p)
+  xored-good i p h = (xor32 (h .0) (word-at 32 (r .constants) i (s .constants-lt)), h .1)
 
-  pub cipher-inverse : (k : Quad) → Good k → Inverse Good (cipher s k) (cipher s (θ s zeroKey k))
-  unfolding cipher round
+  xored-twice : (c : ℕ) (p : Quad) → firstXored c (firstXored c p) ≡ p
+  xored-twice c p = λ i. record { p0 = xor-cancel-r (p .p0) c i; p1 = p .p1; p2 = p .p2; p3 = p .p3 }
+
+  abbrev forth : Quad → ℕ → Quad → Quad
+  forth k i p = θ r k (firstXored (constant r i) p)
+
+  abbrev back : Quad → ℕ → Quad → Quad
+  back k i p = firstXored (constant r i) (θ r k p)
+
+  forth-good : (k : Quad) → Good k → (i : ℕ) (p : Quad) → Good p → Good (forth k i p)
+  forth-good k g i p h = θ-good r s k (firstXored (constant r i) p) g (xored-good i p h)
+
+  back-good : (k : Quad) → Good k → (i : ℕ) (p : Quad) → Good p → Good (back k i p)
+  back-good k g i p h = xored-good i (θ r k p) (θ-good r s k p g h)
+
+  back-forth : (k : Quad) → Good k → (i : ℕ) (p : Quad) → Good p → back (θ r zeroKey k) i (forth k i p) ≡ p
+  back-forth k g i p h =
+      let c = constant r i in
+      ap (firstXored c) (θ-undo r s k (firstXored c p) g (xored-good i p h)) ∙ xored-twice c p
+
+  forth-back : (k : Quad) → Good k → (i : ℕ) (p : Quad) → Good p → forth k i (back (θ r zeroKey k) i p) ≡ p
+  forth-back k g i p h = ap (θ r k) (xored-twice (constant r i) (θ r (θ r zeroKey k) p)) ∙ θ-redo r s k p g h
+
+  -- ---- the cipher on words
+  cipher-good : (k p : Quad) → Good k → Good p → Good (cipher r k p)
+  unfolding cipher
+  cipher-good k p g h =
+      forth-good k g 16 (steps 16 (round r k) p)
+      (steps-keep Good 16 (round r k) (λ i q l w. mixed-good (forth k i q) (forth-good k g i q w)) p h)
+
+  cipher⁻-good : (k p : Quad) → Good k → Good p → Good (cipher⁻ r k p)
+  unfolding cipher⁻
+  cipher⁻-good k p g h =
+      back-good k g 0 (steps 16 (round⁻ r k) p)
+      (steps-keep Good 16 (round⁻ r k) (λ i q l w. mixed-good (back k (16 - i) q) (back-good k g (16 - i) q w)) p h)
+
+  pub cipher-inverse : (k : Quad) → Good k → Inverse Good (cipher r k) (cipher⁻ r (θ r zeroKey k))
+  unfolding cipher cipher⁻
   cipher-inverse k g =
-      let k⁻ : Quad = θ s zeroKey k in
-      let g⁻ : Good k⁻ = θ-good zeroKey k zero-good g in
+      let k⁻ : Quad = θ r zeroKey k in
+      let g⁻ : Good k⁻ = θ-good r s zeroKey k zero-good g in
       record {
         on = λ p h. cipher-good k p g h;
-        off = λ p h. cipher-good k⁻ p g⁻ h;
-        undo = mirrored-undo Good mix (θ s k) (θ s k⁻) mix-good (λ a w. θ-good k a g w) mix-mix (λ a w. θ-undo k a) 16;
-        redo = mirrored-undo Good mix (θ s k⁻) (θ s k) mix-good (λ a w. θ-good k⁻ a g⁻ w) mix-mix (λ a w. θ-redo k a) 16;
+        off = λ p h. cipher⁻-good k⁻ p g⁻ h;
+        undo = mirrored-undo Good mixed (forth k) (back k⁻) mixed-good mixed-mixed (forth-good k g) (back-forth k g) 16;
+        redo = mirrored-redo Good mixed (forth k) (back k⁻) mixed-good mixed-mixed (back-good k⁻ g⁻) (forth-back k g) 16;
       }
-
--- ---- 003's S
-S-adds : (x y : ℕ) → S (bitXor x y) ≡ bitXor (S x) (S y)
-S-adds x y =
-    ap₂ (λ (a b : ℕ). bitXor (bitXor (bitXor x y) a) b) (xor-shr x y 8) (xor-shl-word 32 x y 8)
-    ∙ ap (λ (n : ℕ). bitXor n (bitXor (x * 2 ^ 8 % 2 ^ 32) (y * 2 ^ 8 % 2 ^ 32))) (xor-swap x y (x / 2 ^ 8) (y / 2 ^ 8))
-    ∙ xor-swap (bitXor x (x / 2 ^ 8)) (bitXor y (y / 2 ^ 8)) (x * 2 ^ 8 % 2 ^ 32) (y * 2 ^ 8 % 2 ^ 32)
-
-S-lt : (t : ℕ) → Word 32 t → Word 32 (S t)
-S-lt t h = xor-lt 32 (bitXor t (t / 2 ^ 8)) (t * 2 ^ 8 % 2 ^ 32) (xor-lt 32 t (t / 2 ^ 8) h (lt-of-le-of-lt (shr-le t 8) h)) (mod-lt (t * 2 ^ 8) (pow-pos 32))
 
 -- ---- bytes and words
 load-good : (b : List ℕ) → Words 8 b → Good (load b)
@@ -213,8 +165,8 @@ load-store p h =
     (wordsOf-bytesOf 4 (wordList p) (each-words 32 4 (wordList p) refl h))
 
 -- ---- the cipher on bytes, for any round keys
-pub encipher-inverse : (keys : List ℕ) → Words 8 keys → Inverse (Bytes 16) (encipher keys) (decipher keys)
+pub encipher-inverse : (b : Bool) (keys : List ℕ) → Words 8 keys → Inverse (Bytes 16) (encipher (rule b) keys) (decipher (rule b) keys)
 unfolding encipher decipher
-encipher-inverse keys h =
-    carried load store (λ b w. load-good b (words-each 8 16 b w)) store-bytes store-load load-store
-    (cipher-inverse S S-adds S-lt (load keys) (load-good keys h))
+encipher-inverse b keys h =
+    carried load store (λ l w. load-good l (words-each 8 16 l w)) store-bytes store-load load-store
+    (cipher-inverse (rule b) (sound b) (load keys) (load-good keys h))

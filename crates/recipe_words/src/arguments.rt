@@ -1,7 +1,7 @@
 // What the words of the command mean: a direction, a cipher, a file.
 use libc::STDIN_FILENO;
 
-// 01's numbers, for the names that a person types.
+// The numbers of 01, and of 02, request 2, for the names that a person types.
 pub const ENCIPHER: u64 = 1;
 
 const DECIPHER: u64 = 2;
@@ -11,6 +11,8 @@ const HIEROCRYPT3: u64 = 1;
 const E2: u64 = 2;
 
 const NOEKEON: u64 = 3;
+
+const NOEKEON_EARLIER: u64 = 4;
 
 // The places of the words.
 const DIRECTION: usize = 1;
@@ -78,6 +80,9 @@ fn cipher_of(word: &[u8]) -> u64 {
     }
     if is(word, b"noekeon") {
         return NOEKEON;
+    }
+    if is(word, b"noekeon-earlier") {
+        return NOEKEON_EARLIER;
     }
     digit(word)
 }

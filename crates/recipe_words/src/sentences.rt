@@ -44,13 +44,13 @@ fn bytes_held(direction: u64, length: u64) {
 pub fn refused(answer: u8, direction: u64, length: u64) {
     around(b"refused ", answer as u64, b": ");
     match answer {
-        refusals::UNKNOWN_CIPHER => {
-            say(b"no such cipher; take hierocrypt3, e2 or noekeon, or its number, 1, 2 or 3\n")
-        }
+        refusals::UNKNOWN_CIPHER => say(
+            b"no such cipher; take hierocrypt3, e2, noekeon or noekeon-earlier, or its number, 1 to 4\n",
+        ),
         refusals::KEY_LENGTH => around(
             b"the key has a length of ",
             length,
-            b"; give one of 16, 24 or 32 bytes, for noekeon of 16, two hex digits each\n",
+            b"; give one of 16, 24 or 32 bytes, for noekeon and noekeon-earlier of 16, two hex digits each\n",
         ),
         refusals::FIRST_BLOCK_LENGTH => around(
             b"the first block has a length of ",

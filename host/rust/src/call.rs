@@ -3,7 +3,7 @@
 use second::random::Random;
 
 /// Legal pairs of cipher and key length.
-pub const KINDS: [(u64, usize); 7] = [
+pub const KINDS: [(u64, usize); 8] = [
     (1, 16),
     (1, 24),
     (1, 32),
@@ -11,6 +11,7 @@ pub const KINDS: [(u64, usize); 7] = [
     (2, 24),
     (2, 32),
     (3, 16),
+    (4, 16),
 ];
 
 const LONGEST: usize = 40;

@@ -2,29 +2,32 @@
 //! Follows document 01, 'The two records' and 'Refusal numbers'.
 
 use super::call::Call;
+use super::ciphers::{Ciphers, BASE};
 use super::entries;
 use super::faults::{any_schedule, bad_schedules};
-use super::script::{room, Script, BLOCK_LENGTHS, KEY_LENGTHS, LEGAL, NUMBERS, ROOMS};
-use super::vectors::VECTORS;
-use crate::cipher::{is_cipher, set_up, used, Schedule};
+use super::script::{room, Script, BLOCK_LENGTHS, KEY_LENGTHS, ROOMS};
+use super::vectors::{Vector, VECTORS};
+use crate::cipher::{is_cipher, set_up, used, Schedule, HIEROCRYPT3};
 use crate::random::Random;
 
 pub fn write(script: &mut Script) {
     let random = &mut Random::seeded(1);
     script.encipher(&random.bytes(16), room(16, 0xA5));
     script.decipher(&random.bytes(16), room(16, 0xA5));
-    set_ups(script, random);
-    legal_keys(script, random);
-    published_vectors(script);
-    lengths_and_rooms(script, random);
-    keys_from_no_key(script, random);
+    set_ups(script, random, &BASE);
+    legal_keys(script, random, BASE.legal);
+    for vector in VECTORS {
+        published_vector(script, HIEROCRYPT3, &vector);
+    }
+    lengths_and_rooms(script, random, BASE.legal);
+    keys_from_no_key(script, random, BASE.legal);
     schedules_to_refuse(script, random);
-    entries::write(script, random);
+    entries::write(script, random, &BASE);
 }
 
 /// Every number with every length, and a block under whatever schedule is kept then.
-fn set_ups(script: &mut Script, random: &mut Random) {
-    for cipher in NUMBERS {
+pub fn set_ups(script: &mut Script, random: &mut Random, ciphers: &Ciphers) {
+    for &cipher in ciphers.numbers {
         let lengths = if is_cipher(cipher) {
             &KEY_LENGTHS[..]
         } else {
@@ -37,8 +40,8 @@ fn set_ups(script: &mut Script, random: &mut Random) {
     }
 }
 
-fn legal_keys(script: &mut Script, random: &mut Random) {
-    for (cipher, key_length) in LEGAL {
+pub fn legal_keys(script: &mut Script, random: &mut Random, legal: &[(u8, u8)]) {
+    for &(cipher, key_length) in legal {
         let length = usize::from(key_length);
         both_ways(script, random, cipher, &vec![0x00; length]);
         both_ways(script, random, cipher, &vec![0xFF; length]);
@@ -80,29 +83,27 @@ fn many_blocks(script: &mut Script, random: &mut Random) {
     }
 }
 
-fn published_vectors(script: &mut Script) {
-    for vector in VECTORS {
-        let key = vector.key_bytes();
-        script.set_up(1, &key);
-        script.encipher(&vector.plaintext_block(), room(16, 0x11));
-        script.decipher(&vector.ciphertext_block(), room(16, 0x22));
-        for (direction, block) in [
-            (1, vector.plaintext_block()),
-            (2, vector.ciphertext_block()),
-        ] {
-            script.call(Call::Entry {
-                cipher: 1,
-                direction,
-                key: key.clone(),
-                block: block.to_vec(),
-                buffer: room(16, 0x33),
-            });
-        }
+pub fn published_vector(script: &mut Script, cipher: u8, vector: &Vector) {
+    let key = vector.key_bytes();
+    script.set_up(cipher.into(), &key);
+    script.encipher(&vector.plaintext_block(), room(16, 0x11));
+    script.decipher(&vector.ciphertext_block(), room(16, 0x22));
+    for (direction, block) in [
+        (1, vector.plaintext_block()),
+        (2, vector.ciphertext_block()),
+    ] {
+        script.call(Call::Entry {
+            cipher: cipher.into(),
+            direction,
+            key: key.clone(),
+            block: block.to_vec(),
+            buffer: room(16, 0x33),
+        });
     }
 }
 
-fn lengths_and_rooms(script: &mut Script, random: &mut Random) {
-    for (cipher, key_length) in LEGAL {
+pub fn lengths_and_rooms(script: &mut Script, random: &mut Random, legal: &[(u8, u8)]) {
+    for &(cipher, key_length) in legal {
         script.set_up(cipher.into(), &random.bytes(key_length.into()));
         for length in BLOCK_LENGTHS {
             for space in ROOMS {
@@ -114,8 +115,8 @@ fn lengths_and_rooms(script: &mut Script, random: &mut Random) {
     }
 }
 
-fn keys_from_no_key(script: &mut Script, random: &mut Random) {
-    for (cipher, key_length) in LEGAL {
+pub fn keys_from_no_key(script: &mut Script, random: &mut Random, legal: &[(u8, u8)]) {
+    for &(cipher, key_length) in legal {
         let used = used(cipher, key_length);
         let mut schedules = vec![
             Schedule::with(cipher, key_length, &vec![0x00; used]),
@@ -134,7 +135,7 @@ fn keys_from_no_key(script: &mut Script, random: &mut Random) {
 
 /// Each bad schedule with good and with bad lengths beside it.
 fn schedules_to_refuse(script: &mut Script, random: &mut Random) {
-    for schedule in bad_schedules(random) {
+    for schedule in bad_schedules(random, &BASE) {
         script.keep_schedule(&schedule);
         for (length, space) in [(16, 16), (15, 16), (16, 15), (17, 0)] {
             script.encipher(&random.bytes(length), room(space, random.byte()));

@@ -1,15 +1,16 @@
-//! The C entry's calls at the end of the blocks part of the script.
+//! The C entry's calls, for the end of the blocks part and for request 2.
 //! Follows document 01, 'Refusal numbers'.
 
 use super::call::Call;
-use super::script::{room, Script, BLOCK_LENGTHS, KEY_LENGTHS, LEGAL, NUMBERS, ROOMS};
+use super::ciphers::Ciphers;
+use super::script::{room, Script, BLOCK_LENGTHS, DIRECTIONS, KEY_LENGTHS, ROOMS};
 use crate::random::Random;
 
-pub fn write(script: &mut Script, random: &mut Random) {
-    numbers(script, random);
-    broken_rules(script, random);
-    key_lengths(script, random);
-    lengths_and_rooms(script, random);
+pub fn write(script: &mut Script, random: &mut Random, ciphers: &Ciphers) {
+    numbers(script, random, ciphers);
+    broken_rules(script, random, ciphers);
+    key_lengths(script, random, ciphers);
+    lengths_and_rooms(script, random, ciphers);
 }
 
 struct Entry {
@@ -30,10 +31,10 @@ fn call_entry(script: &mut Script, random: &mut Random, entry: Entry) {
     });
 }
 
-/// Every number as cipher with every number as direction, all else legal.
-fn numbers(script: &mut Script, random: &mut Random) {
-    for cipher in NUMBERS {
-        for direction in NUMBERS {
+/// Every number as cipher with every direction, all else legal.
+fn numbers(script: &mut Script, random: &mut Random, ciphers: &Ciphers) {
+    for &cipher in ciphers.numbers {
+        for direction in DIRECTIONS {
             let entry = Entry {
                 cipher,
                 direction,
@@ -47,22 +48,27 @@ fn numbers(script: &mut Script, random: &mut Random) {
 }
 
 /// Every set of broken rules, for every cipher and key length.
-fn broken_rules(script: &mut Script, random: &mut Random) {
-    for (cipher, key_length) in LEGAL {
+fn broken_rules(script: &mut Script, random: &mut Random, ciphers: &Ciphers) {
+    for &(cipher, key_length) in ciphers.legal {
         for broken in 0..32u8 {
+            let cipher = match breaks(broken, 0) {
+                true => random.one_of(ciphers.illegal),
+                false => cipher.into(),
+            };
             let entry = entry_breaking(random, cipher, key_length, broken);
             call_entry(script, random, entry);
         }
     }
 }
 
-fn entry_breaking(random: &mut Random, cipher: u8, key_length: u8, broken: u8) -> Entry {
-    let breaks = |rule: u8| broken >> rule & 1 == 1;
+fn breaks(broken: u8, rule: u8) -> bool {
+    broken >> rule & 1 == 1
+}
+
+fn entry_breaking(random: &mut Random, cipher: u64, key_length: u8, broken: u8) -> Entry {
+    let breaks = |rule| breaks(broken, rule);
     Entry {
-        cipher: match breaks(0) {
-            true => random.one_of(&[0, 4, 257, 258, 259, u64::MAX]),
-            false => cipher.into(),
-        },
+        cipher,
         key_length: match breaks(1) {
             true => random.one_of(&[0, 15, 17, 33]),
             false => key_length.into(),
@@ -82,12 +88,12 @@ fn entry_breaking(random: &mut Random, cipher: u8, key_length: u8, broken: u8) -
     }
 }
 
-fn key_lengths(script: &mut Script, random: &mut Random) {
-    for cipher in 1..=3 {
+fn key_lengths(script: &mut Script, random: &mut Random, ciphers: &Ciphers) {
+    for cipher in ciphers.legal_numbers() {
         for key_length in KEY_LENGTHS {
             for direction in [1, 2] {
                 let entry = Entry {
-                    cipher,
+                    cipher: cipher.into(),
                     direction,
                     key_length,
                     block_length: 16,
@@ -99,12 +105,12 @@ fn key_lengths(script: &mut Script, random: &mut Random) {
     }
 }
 
-fn lengths_and_rooms(script: &mut Script, random: &mut Random) {
-    for cipher in 1..=3 {
+fn lengths_and_rooms(script: &mut Script, random: &mut Random, ciphers: &Ciphers) {
+    for cipher in ciphers.legal_numbers() {
         for block_length in BLOCK_LENGTHS {
             for space in ROOMS {
                 let entry = Entry {
-                    cipher,
+                    cipher: cipher.into(),
                     direction: random.one_of(&[1, 2]),
                     key_length: 16,
                     block_length,

@@ -1,7 +1,7 @@
 //! Records with arbitrary round keys, and records that are bad for one cause each.
 //! Follows document 01, 'The two records'.
 
-use super::script::LEGAL;
+use super::ciphers::Ciphers;
 use crate::cipher::{is_key_length, used, Schedule, ROUND_KEY_BYTES};
 use crate::random::Random;
 use crate::stream::Stream;
@@ -13,8 +13,8 @@ pub fn any_schedule(random: &mut Random, cipher: u8, key_length: u8) -> Schedule
 }
 
 /// A good open stream in the midst of a message.
-pub fn any_stream(random: &mut Random, count: u64) -> Stream {
-    let (cipher, key_length) = random.one_of(&LEGAL);
+pub fn any_stream(random: &mut Random, legal: &[(u8, u8)], count: u64) -> Stream {
+    let (cipher, key_length) = random.one_of(legal);
     let mut stream = Stream {
         schedule: any_schedule(random, cipher, key_length),
         direction: random.one_of(&[1, 2]),
@@ -28,16 +28,16 @@ pub fn any_stream(random: &mut Random, count: u64) -> Stream {
     stream
 }
 
-pub fn bad_schedules(random: &mut Random) -> Vec<Schedule> {
-    let mut bad = illegal_numbers(random);
-    bad.extend(illegal_lengths(random));
-    bad.extend(marked_behind(random));
+pub fn bad_schedules(random: &mut Random, ciphers: &Ciphers) -> Vec<Schedule> {
+    let mut bad = illegal_numbers(random, ciphers);
+    bad.extend(illegal_lengths(random, ciphers));
+    bad.extend(marked_behind(random, ciphers));
     bad
 }
 
-fn illegal_numbers(random: &mut Random) -> Vec<Schedule> {
+fn illegal_numbers(random: &mut Random, ciphers: &Ciphers) -> Vec<Schedule> {
     let mut bad = Vec::new();
-    for cipher in [0, 4, 5, 128, 255] {
+    for &cipher in ciphers.illegal_bytes {
         for key_length in [0, 16, 24, 32] {
             bad.push(Schedule::with(cipher, key_length, &random.bytes(16)));
         }
@@ -45,9 +45,9 @@ fn illegal_numbers(random: &mut Random) -> Vec<Schedule> {
     bad
 }
 
-fn illegal_lengths(random: &mut Random) -> Vec<Schedule> {
+fn illegal_lengths(random: &mut Random, ciphers: &Ciphers) -> Vec<Schedule> {
     let mut bad = Vec::new();
-    for cipher in [1, 2, 3] {
+    for cipher in ciphers.legal_numbers() {
         for key_length in [0, 1, 8, 15, 16, 17, 23, 24, 25, 31, 32, 33, 64, 128, 255] {
             if !is_key_length(cipher.into(), key_length.into()) {
                 bad.push(Schedule::with(cipher, key_length, &random.bytes(16)));
@@ -58,9 +58,9 @@ fn illegal_lengths(random: &mut Random) -> Vec<Schedule> {
 }
 
 /// One byte behind the used ones isn't zero: the first, the last or any other.
-fn marked_behind(random: &mut Random) -> Vec<Schedule> {
+fn marked_behind(random: &mut Random, ciphers: &Ciphers) -> Vec<Schedule> {
     let mut bad = Vec::new();
-    for (cipher, key_length) in LEGAL {
+    for &(cipher, key_length) in ciphers.legal {
         let first = used(cipher, key_length);
         if first == ROUND_KEY_BYTES {
             continue;
@@ -76,39 +76,39 @@ fn marked_behind(random: &mut Random) -> Vec<Schedule> {
 }
 
 /// Streams that are bad for another cause than their schedule.
-pub fn bad_streams(random: &mut Random) -> Vec<Stream> {
+pub fn bad_streams(random: &mut Random, legal: &[(u8, u8)]) -> Vec<Stream> {
     let mut bad = Vec::new();
     for direction in [0, 3, 4, 128, 255] {
-        let stream = any_stream(random, 5);
+        let stream = any_stream(random, legal, 5);
         bad.push(Stream {
             direction,
             ..stream
         });
     }
     for over in [1, 16, 1 << 20, 1 << 32, 1 << 63] {
-        bad.push(any_stream(random, Stream::LIMIT + over));
+        bad.push(any_stream(random, legal, Stream::LIMIT + over));
     }
-    bad.push(any_stream(random, u64::MAX));
+    bad.push(any_stream(random, legal, u64::MAX));
     for held in [1, 8, 15] {
-        let stream = any_stream(random, 32 + held);
+        let stream = any_stream(random, legal, 32 + held);
         bad.push(Stream {
             closed: true,
             ..stream
         });
     }
-    bad.extend(stale_streams(random));
+    bad.extend(stale_streams(random, legal));
     bad
 }
 
 /// One held byte behind the used ones isn't zero: each place once, and the next
 /// place for each number held.
-fn stale_streams(random: &mut Random) -> Vec<Stream> {
+fn stale_streams(random: &mut Random, legal: &[(u8, u8)]) -> Vec<Stream> {
     let each_place = (0..15).map(|place| (0, place));
     let next_place = (1..15).map(|held| (held, held));
     let places: Vec<(usize, usize)> = each_place.chain(next_place).collect();
     let mut bad = Vec::new();
     for (held, place) in places {
-        let mut stream = any_stream(random, 16 + held as u64);
+        let mut stream = any_stream(random, legal, 16 + held as u64);
         stream.held[place] = random.mark();
         bad.push(stream);
     }

@@ -5,6 +5,8 @@
 mod blocks;
 pub mod call;
 mod cards;
+pub mod ciphers;
+mod designers;
 mod entries;
 pub mod faults;
 pub mod interpreter;
@@ -17,7 +19,8 @@ pub mod vectors;
 
 pub use interpreter::run;
 
-/// How much of the script is wanted: behind the blocks part stand streams, then cards.
+/// How much of the script is wanted: behind the blocks part stand streams, then cards,
+/// then request 2's.
 #[derive(Clone, Copy, Debug, PartialEq, Eq)]
 pub enum Extent {
     Blocks,
@@ -31,6 +34,7 @@ pub fn script(extent: Extent) -> Vec<u8> {
     if extent == Extent::Whole {
         streams::write(&mut script);
         cards::write(&mut script);
+        designers::write(&mut script);
     }
     script.bytes
 }

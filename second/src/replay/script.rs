@@ -6,19 +6,8 @@ use super::record::{schedule_bytes, stream_bytes};
 use crate::cipher::Schedule;
 use crate::stream::Stream;
 
-/// Every cipher with each of its key lengths.
-pub const LEGAL: [(u8, u8); 7] = [
-    (1, 16),
-    (1, 24),
-    (1, 32),
-    (2, 16),
-    (2, 24),
-    (2, 32),
-    (3, 16),
-];
-
-/// Cipher numbers and directions: the legal ones and those that merely end in one.
-pub const NUMBERS: [u64; 14] = [
+/// Directions: the legal ones, others, and those that merely end in a legal one.
+pub const DIRECTIONS: [u64; 14] = [
     0,
     1,
     2,

@@ -1,8 +1,9 @@
 //! The streams part of the script: start, pieces and finish, then kept streams.
 //! Follows document 01, 'The two records' and 'Refusal numbers'.
 
+use super::ciphers::BASE;
 use super::faults::{any_schedule, bad_schedules};
-use super::script::{room, Script, LEGAL, NUMBERS};
+use super::script::{room, Script, DIRECTIONS};
 use super::states;
 use crate::cipher::{set_up, Schedule};
 use crate::random::Random;
@@ -15,10 +16,10 @@ pub fn write(script: &mut Script) {
     before_any_start(script, random);
     starts(script, random);
     starts_with_bad_schedules(script, random);
-    pieces_and_rooms(script, random);
+    pieces_and_rooms(script, random, BASE.legal);
     longest_pieces(script, random);
     finishes(script, random);
-    two_cuts(script, random);
+    two_cuts(script, random, BASE.legal);
     another_set_up_between(script, random);
     states::write(script, random);
 }
@@ -37,12 +38,12 @@ fn before_any_start(script: &mut Script, random: &mut Random) {
 
 fn starts(script: &mut Script, random: &mut Random) {
     script.set_up(2, &random.bytes(24));
-    for direction in NUMBERS {
+    for direction in DIRECTIONS {
         for length in [0, 15, 16, 17] {
             script.start(direction, &random.bytes(length));
         }
     }
-    for (cipher, key_length) in LEGAL {
+    for &(cipher, key_length) in BASE.legal {
         script.keep_schedule(&any_schedule(random, cipher, key_length));
         script.start(1, &random.bytes(16));
         script.start(2, &random.bytes(16));
@@ -51,7 +52,7 @@ fn starts(script: &mut Script, random: &mut Random) {
 
 /// Each bad schedule, with a good or a bad direction and first block beside it.
 fn starts_with_bad_schedules(script: &mut Script, random: &mut Random) {
-    for schedule in bad_schedules(random) {
+    for schedule in bad_schedules(random, &BASE) {
         script.keep_schedule(&schedule);
         let direction = random.one_of(&[0, 1, 2, 3, 257]);
         let length = random.one_of(&[15, 16]);
@@ -63,8 +64,8 @@ fn starts_with_bad_schedules(script: &mut Script, random: &mut Random) {
 
 /// All piece lengths on one stream, in another order for each; first refused for
 /// want of room where anything is to be written, then tried again with enough.
-fn pieces_and_rooms(script: &mut Script, random: &mut Random) {
-    for (number, (cipher, key_length)) in LEGAL.into_iter().enumerate() {
+pub fn pieces_and_rooms(script: &mut Script, random: &mut Random, legal: &[(u8, u8)]) {
+    for (number, &(cipher, key_length)) in legal.iter().enumerate() {
         for direction in [1, 2] {
             let mut lengths = PIECES;
             lengths.rotate_left((2 * number + direction as usize - 1) % PIECES.len());
@@ -95,7 +96,7 @@ fn piece_with_retry(script: &mut Script, random: &mut Random, count: usize, leng
 }
 
 fn longest_pieces(script: &mut Script, random: &mut Random) {
-    for (cipher, key_length) in [(1, 32), (2, 16), (3, 16)] {
+    for (cipher, key_length) in [(1, 32), (2, 16), (4, 16)] {
         for direction in [1, 2] {
             script.set_up(cipher, &random.bytes(key_length));
             script.start(direction, &random.bytes(16));
@@ -109,7 +110,7 @@ fn longest_pieces(script: &mut Script, random: &mut Random) {
 /// Finish with each number held; then the block completed, and calls after the end.
 fn finishes(script: &mut Script, random: &mut Random) {
     for held in 0..16 {
-        let (cipher, key_length) = LEGAL[held % LEGAL.len()];
+        let (cipher, key_length) = BASE.legal[held % BASE.legal.len()];
         script.set_up(cipher.into(), &random.bytes(key_length.into()));
         script.start(1 + held as u64 % 2, &random.bytes(16));
         script.piece(&random.bytes(held), room(0, 0));
@@ -120,15 +121,15 @@ fn finishes(script: &mut Script, random: &mut Random) {
         script.piece(&random.bytes(1 + held), room(held, 0x44));
         script.finish();
     }
-    script.set_up(3, &random.bytes(16));
+    script.set_up(4, &random.bytes(16));
     script.start(1, &random.bytes(16));
     script.finish();
     script.finish();
 }
 
 /// A message enciphered in one cut, and what came out deciphered in another.
-fn two_cuts(script: &mut Script, random: &mut Random) {
-    for (cipher, key_length) in LEGAL {
+pub fn two_cuts(script: &mut Script, random: &mut Random, legal: &[(u8, u8)]) {
+    for &(cipher, key_length) in legal {
         let key = random.bytes(key_length.into());
         let first = random.bytes(16);
         let length = 16 * (8 + random.below(16));
@@ -146,7 +147,7 @@ fn two_cuts(script: &mut Script, random: &mut Random) {
     }
 }
 
-fn enciphered(schedule: &Schedule, first: &[u8], message: &[u8]) -> Vec<u8> {
+pub fn enciphered(schedule: &Schedule, first: &[u8], message: &[u8]) -> Vec<u8> {
     let stream = start(schedule, 1, first).stream;
     feed(&stream, message, &vec![0; message.len()]).out
 }

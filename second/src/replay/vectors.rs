@@ -1,5 +1,7 @@
-//! The three published vectors of Hierocrypt-3, with the digits as settled.
-//! Document 002, section 4; the README lists each place where the print differs.
+//! The three published vectors of Hierocrypt-3, with the digits as settled, and four of
+//! the designers' Noekeon.
+//! Document 002, section 4; the README lists each place where the print differs. The
+//! documents have none of Noekeon's; the README says where these are from.
 
 use crate::bytes::{from_words, Block};
 
@@ -29,6 +31,30 @@ pub const VECTORS: [Vector; 3] = [
         ],
         plaintext: [0xc16d7efc, 0xa1cbafc7, 0x625cbe9c, 0x2593de2d],
         ciphertext: [0xc86cd3b4, 0xa3185232, 0xe3457d63, 0x8c6515c9],
+    },
+];
+
+/// That of libtomcrypt's own test first, then three blocks as libtomcrypt enciphers them.
+pub const NOEKEON_VECTORS: [Vector; 4] = [
+    Vector {
+        key: &[0xaa3c8c86, 0xd98bf8be, 0x21e03609, 0x78fbe490],
+        plaintext: [0xe4966cd3, 0x13a06caf, 0xd023c9fd, 0x45322316],
+        ciphertext: [0xa6ecb8a8, 0x61fd62d9, 0x1302fe9e, 0x47013fc3],
+    },
+    Vector {
+        key: &[0; 4],
+        plaintext: [0; 4],
+        ciphertext: [0xb1656851, 0x699e29fa, 0x24b70148, 0x503d2dfc],
+    },
+    Vector {
+        key: &[u32::MAX; 4],
+        plaintext: [u32::MAX; 4],
+        ciphertext: [0x2a78421b, 0x87c7d092, 0x4f26113f, 0x1d1349b2],
+    },
+    Vector {
+        key: &[0xb1656851, 0x699e29fa, 0x24b70148, 0x503d2dfc],
+        plaintext: [0x2a78421b, 0x87c7d092, 0x4f26113f, 0x1d1349b2],
+        ciphertext: [0xe2f687e0, 0x7b75660f, 0xfc372233, 0xbc47532c],
     },
 ];
 

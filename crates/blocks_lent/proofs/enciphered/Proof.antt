@@ -1,7 +1,6 @@
-use borrow.Author.Needs.{needs}
 use Rattle.blocks_lent.specs.Ways.{E}
 use Rattle.cipher_numbers.proofs.Legal.{legal-length, number-last, number-1, number-2}
-use Rattle.blocks_lent.proofs.Tables.{lent-1-forth, lent-2}
+use Rattle.blocks_lent.proofs.Tables.{lent-1-forth, lent-2, lent-last}
 use Rattle.blocks_lent.proofs.enciphered.Statement.{statement}
 use Rattle.blocks_lent.proofs.enciphered.Tie as tie
 
@@ -26,13 +25,15 @@ returns-2 c =
     let start = c .before .before .before .before .before .before .before in
     rw (number-2 (start .args .way .cipher) (c .before .if2 .taken), E) (c .encipher-with2 .ensures)
 
-encipher-requires : tie.Need-encipher-requires
-encipher-requires c κs = search needs
+encipher-with-requires-3 : tie.Need-encipher-with-requires-3
+encipher-with-requires-3 c κs =
+    let start = c .before .before .before .before .before .before .before in
+    lent-last (start .args .way) _ _ (start .pre .0) (c .before .before .before .if1 .left) (c .before .if2 .left)
 
 returns-3 : tie.Need-returns-3
 returns-3 c =
-    let start = c .before .before .before .before .before .before .before in
-    rw (number-last (start .args .way .cipher) _ (start .pre .1) (c .before .before .before .if1 .left) (c .before .if2 .left), E) (c .encipher .ensures)
+    let start = c .before .before .before .before .before .before .before .before in
+    rw (number-last (start .args .way .cipher) _ (start .pre .1) (c .before .before .before .before .if1 .left) (c .before .before .if2 .left), E) (c .encipher-with3 .ensures)
 
 pub enciphered-spec : {M : Type 1} → statement M
 enciphered-spec =
@@ -42,5 +43,5 @@ enciphered-spec =
     returns
     encipher-with-requires-2
     returns-2
-    encipher-requires
+    encipher-with-requires-3
     returns-3)

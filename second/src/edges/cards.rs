@@ -1,6 +1,7 @@
-//! Edge cases in words, for a person to read: each with what the calls answer.
+//! The edge cases of recipe cards.
 //! Follows document 02, request 1.
 
+use super::hex;
 use crate::bytes::Block;
 use crate::card::{find, good, put, Record, EMPTY, SLOT, SLOTS};
 use crate::refusal::Answer;
@@ -84,10 +85,6 @@ fn place_in_words(card: &[u8], record: &[u8]) -> String {
     place.map_or("lost".to_string(), |(slot, number)| {
         format!("slot {number} is {}", hex(slot))
     })
-}
-
-fn hex(bytes: &[u8]) -> String {
-    bytes.iter().map(|byte| format!("{byte:02x}")).collect()
 }
 
 fn s(recipe: u16, segment: u8) -> Block {

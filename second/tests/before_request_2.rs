@@ -1,0 +1,131 @@
+//! What number 3 answered before request 2 now comes from number 4: the parts of the
+//! script that were there then, with their numbers changed back, the answers to them, and
+//! the edge cases of the ciphers.
+//! Follows document 02, request 2, and the page on replay.
+
+use second::bytes::part;
+use second::edges::ciphers;
+use second::replay::call::Call;
+use second::replay::reader::Reader;
+use second::replay::record::{SCHEDULE_BYTES, STREAM_BYTES};
+
+/// Length and digest of the script and of the answers of the base and request 1, as they
+/// stood in `replay/script` and `replay/answers` before request 2.
+const BEFORE: [(usize, u64); 2] = [
+    (994_236, 0x111D_7F75_EC8C_400B),
+    (899_914, 0x17BB_0662_769A_7C71),
+];
+
+/// Length and digest of the edge cases of ciphers 1, 2 and 3 as they stood in the
+/// product's `crates/edges/stdout` before request 2.
+const EDGES_BEFORE: (usize, u64) = (5148, 0x35F1_C05D_8E77_DEFB);
+
+/// FNV-1a in 64 bits.
+fn digest(bytes: &[u8]) -> u64 {
+    bytes.iter().fold(0xCBF2_9CE4_8422_2325, |hash, &byte| {
+        (hash ^ u64::from(byte)).wrapping_mul(0x0000_0100_0000_01B3)
+    })
+}
+
+/// The part of today's file that stood there before; each number takes as many bytes.
+fn old_part(name: &str, (length, _): (usize, u64)) -> Vec<u8> {
+    let path = format!("{}/replay/{name}", env!("CARGO_MANIFEST_DIR"));
+    let mut bytes = std::fs::read(path).unwrap();
+    bytes.truncate(length);
+    bytes
+}
+
+/// The number that stood where `today` stands: 3 was the earlier Noekeon, and 4 was
+/// illegal, in whose place stands 7. Today's 3 is new, and no old part has it.
+fn before(today: u64) -> u64 {
+    assert_ne!(today, 3, "an old part has today's number 3");
+    match today {
+        4 => 3,
+        7 => 4,
+        other => other,
+    }
+}
+
+fn set_back(first: &mut u8) {
+    *first = before((*first).into()) as u8;
+}
+
+fn with_number_before(mut call: Call) -> Call {
+    match &mut call {
+        Call::SetUp { cipher, .. } | Call::Entry { cipher, .. } => *cipher = before(*cipher),
+        Call::KeepSchedule(record) => set_back(&mut record[0]),
+        Call::KeepStream(record) => set_back(&mut record[0]),
+        _ => {}
+    }
+    call
+}
+
+/// How many bytes are written for the call, and how many of them, at the end, are a
+/// record that begins with a cipher number. Of a find, `answers` has the length.
+fn written(call: &Call, answers: &[u8]) -> (usize, usize) {
+    match call {
+        Call::SetUp { .. } => (1 + SCHEDULE_BYTES, SCHEDULE_BYTES),
+        Call::Encipher { buffer, .. }
+        | Call::Decipher { buffer, .. }
+        | Call::Entry { buffer, .. } => (1 + buffer.room, 0),
+        Call::Start { .. } | Call::Finish => (1 + STREAM_BYTES, STREAM_BYTES),
+        Call::Piece { buffer, .. } => (9 + buffer.room + STREAM_BYTES, STREAM_BYTES),
+        Call::KeepSchedule(_) | Call::KeepStream(_) => (0, 0),
+        Call::IsGood { .. } => (1, 0),
+        Call::Find { .. } => (4 + u32::from_be_bytes(part(answers, 0)) as usize, 0),
+        Call::Put { card, .. } => (1 + card.len(), 0),
+    }
+}
+
+/// Script and answers with the numbers that they had before, by length and digest.
+fn as_before(script: &[u8], answers: &[u8]) -> [(usize, u64); 2] {
+    let (mut old_script, mut old_answers) = (Vec::new(), answers.to_vec());
+    let mut reader = Reader::new(script);
+    let mut place = 0;
+    while !reader.at_end() {
+        let call = reader.call().expect("the old parts end with a call");
+        let (length, record) = written(&call, &answers[place..]);
+        place += length;
+        if record > 0 {
+            set_back(&mut old_answers[place - record]);
+        }
+        old_script.extend(with_number_before(call).bytes());
+    }
+    assert_eq!(place, answers.len());
+    [old_script, old_answers].map(|old| (old.len(), digest(&old)))
+}
+
+#[test]
+fn what_3_answered_before_comes_from_4() {
+    let script = old_part("script", BEFORE[0]);
+    let answers = old_part("answers", BEFORE[1]);
+    assert_eq!(as_before(&script, &answers), BEFORE);
+}
+
+#[test]
+fn a_byte_that_differs_is_seen() {
+    let script = old_part("script", BEFORE[0]);
+    let answers = old_part("answers", BEFORE[1]);
+    let mut changed = answers.clone();
+    *changed.last_mut().unwrap() ^= 1;
+    assert_ne!(as_before(&script, &changed), BEFORE);
+    let mut changed = script.clone();
+    *changed.last_mut().unwrap() ^= 1;
+    assert_ne!(as_before(&changed, &answers), BEFORE);
+}
+
+#[test]
+fn the_edge_cases_of_3_before_are_those_of_4() {
+    let text = ciphers();
+    let new = text.find("cipher 3\n").unwrap();
+    let earlier = text.find("cipher 4\n").unwrap();
+    let before = text[..new].to_string() + &text[earlier..].replace("cipher 4\n", "cipher 3\n");
+    assert_eq!((before.len(), digest(before.as_bytes())), EDGES_BEFORE);
+}
+
+#[test]
+fn the_digest_is_fnv_1a() {
+    assert_eq!(digest(b""), 0xCBF2_9CE4_8422_2325);
+    assert_eq!(digest(b"a"), 0xAF63_DC4C_8601_EC8C);
+    assert_eq!(digest(b"foobar"), 0x8594_4171_F739_67E8);
+}
