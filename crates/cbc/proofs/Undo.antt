@@ -1,19 +1,16 @@
 -- Deciphering a chained message undoes enciphering it, and the reverse, over any block functions that undo one another on 16 bytes. And what CBC makes of blocks are
 -- blocks, as many.
 use mathlib.Core.Path.{_≡_, refl, sym, ap, ap₂, _∙_}
-use mathlib.Core.Bool.{Bool, true, false}
 use mathlib.Core.List.{List, [], _∷_, _++_}
 use Prim.Native.Nat.{ℕ, zero, suc, _+_, _*_, _/_, _≤_}
 use native.Mathlib.Omega.{arith}
-use lib.Dec.{eqb}
 use lib.ListN.{length, take, drop, length-append, length-drop}
 use lib.Seq.{take-at, drop-at, take-add, length-take-le}
-use Rattle.laws.specs.Choice.{choose}
 use Rattle.laws.specs.Bytes.{Bytes, xorL}
 use Rattle.laws.specs.Inverse.{Inverse}
 use Rattle.laws.proofs.Words.{Words, words-take, words-drop, each-words}
 use Rattle.laws.proofs.XorLists.{xorL-bytes, xorL-cancel-r}
-use Rattle.cbc.specs.Cbc.{cbcEncryption, cbcDecryption, lastOr, out, chain, join, blocks, whole, answer, Blocks}
+use Rattle.cbc.specs.Cbc.{cbcEncryption, cbcDecryption, out, join, blocks, whole, answer, Blocks}
 
 -- ---- bytes to blocks and back
 pub blocks-are : (n : ℕ) (l : List ℕ) → 16 * n ≤ length l → Words 8 l → Blocks (blocks n l)

@@ -16,7 +16,7 @@ use Rattle.cipher_numbers.specs.Ciphers.{isDirection}
 use Rattle.cipher.specs.Schedule.{bad, enciphered, deciphered}
 use Rattle.cipher.specs.declared.Schedule.{Schedule}
 use Rattle.demands.proofs.Undo.{block-inverse, enciphered-long}
-use Rattle.cbc.specs.Cbc.{chain, whole, answer}
+use Rattle.cbc.specs.Cbc.{chain, answer}
 use Rattle.cbc.proofs.Parts.{chain-none}
 use Rattle.cbc.proofs.Undo.{message-undo, message-redo}
 use Rattle.stream.specs.State.{fresh, zeroStream}

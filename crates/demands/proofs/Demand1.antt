@@ -13,7 +13,7 @@ use Rattle.runs.specs.Zeros.{zeros}
 use Rattle.refusals.specs.Refusals as refusal
 use Rattle.pieces.specs.Pieces.{limit, held15}
 use Rattle.stream.specs.State.{heldNumber, atHand, badState}
-use Rattle.stream.specs.Calls.{made, pieceRefusal, fed, fedAs, feed, feedOut, finishRefusal, closedStream, finishedAs, finish}
+use Rattle.stream.specs.Calls.{made, pieceRefusal, fed, fedAs, feed, feedOut, closedStream, finish}
 use Rattle.stream.specs.declared.Stream.{Stream}
 use Rattle.stream.specs.declared.Fed.{Fed}
 use Rattle.stream.specs.declared.Finished.{Finished}

@@ -15,7 +15,7 @@ use Rattle.refusals.specs.Refusals as refusal
 use Rattle.cipher_numbers.specs.Ciphers.{isDirection}
 use Rattle.cipher.specs.Schedule.{bad, enciphered, deciphered}
 use Rattle.cipher.specs.declared.Schedule.{Schedule}
-use Rattle.cbc.specs.Cbc.{chain, join, blocks, whole, rest, completed, answer}
+use Rattle.cbc.specs.Cbc.{chain, join, whole, rest, completed, answer}
 use Rattle.cbc.proofs.Parts.{out-none, chain-none}
 use Rattle.cbc.proofs.Cut.{rest-length, cut-rest, cut-answer, cut-chain}
 use Rattle.cbc.proofs.Sized.{Sized, out-long}

@@ -1,7 +1,7 @@
 -- The two fields that the documents name: that of z^8 + z^6 + z^5 + z + 1, and that of x^8 + x^4 + x^3 + x + 1. In each the product associates, which antt computes,
 -- so that powers by squaring are its powers.
 use mathlib.Core.Path.{_≡_, refl}
-use Prim.Native.Nat.{ℕ, _^_}
+use Prim.Native.Nat.{ℕ}
 use lib.Dec.{T}
 use Rattle.laws.specs.Bytes.{Byte}
 use Rattle.laws.specs.Field.{product, power}

@@ -6,8 +6,7 @@ use Prim.Native.Nat.{ℕ, zero, suc, _+_, _^_}
 use native.Mathlib.Omega.{arith}
 use lib.Dec.{T, ltb, ltb→lt}
 use lib.Pow.{pow-pos}
-use lib.ListN.{length, getD, take, drop, length-append, length-drop}
-use lib.Seq.{length-take-le}
+use lib.ListN.{length, getD, take, drop, length-append}
 use Rattle.laws.specs.Places.{part, Each}
 use Rattle.laws.specs.Bytes.{Word, Byte, Bytes}
 use Rattle.laws.proofs.Test.{both, both-left, both-right}

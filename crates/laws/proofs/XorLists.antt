@@ -3,11 +3,11 @@ use mathlib.Core.Path.{_≡_, sym, ap, _∙_}
 use mathlib.Core.List.{List, _∷_}
 use Prim.Native.Nat.{ℕ, suc, _<_}
 use lib.ListN.{length, getD, replicate, getD-replicate}
-use lib.Bits.{bitXor, xor-comm, xor-lt}
+use lib.Bits.{bitXor, xor-lt}
 use Rattle.laws.specs.Places.{Each}
 use Rattle.laws.specs.Bytes.{Word, Bytes, xorL}
-use Rattle.laws.proofs.Xor.{xor-assoc, xor-cancel-r}
-use Rattle.laws.proofs.Places.{length-tab, getD-tab, tab-is, tab-equal, tabFrom-suc, each-tab}
+use Rattle.laws.proofs.Xor.{xor-cancel-r}
+use Rattle.laws.proofs.Places.{length-tab, getD-tab, tab-is, tabFrom-suc, each-tab}
 
 abbrev pub zeroList : ℕ → List ℕ
 zeroList n = replicate n 0

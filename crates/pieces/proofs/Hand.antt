@@ -6,7 +6,7 @@ use Prim.Native.Nat.{ℕ, _+_, _-_, _*_, _≤_, _<_}
 use native.Mathlib.Nat.{le-refl}
 use native.Mathlib.Omega.{arith}
 use lib.ListN.{length, getD, set, take, drop, replicate, take-append-drop, length-append, length-drop, List·getD-append}
-use lib.Seq.{length-take-le, getD-take, getD-append-add, drop-append-add, drop-drop, getD-drop, take-at, take-all}
+use lib.Seq.{length-take-le, getD-take, getD-append-add, drop-append-add, getD-drop, take-at, take-all}
 use Rattle.runs.specs.Zeros.{zeros}
 use Rattle.runs.proofs.Fill.{zeros-are, fill-next}
 use Rattle.pieces.specs.Pieces.{held15}

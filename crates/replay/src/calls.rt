@@ -154,7 +154,7 @@ fn keep_stream(kept: Kept) -> Turn {
     }
 }
 
-// What is kept is none of a card's.
+// A call on a card leaves what is kept.
 fn on_card(on: bool, kept: Kept) -> Turn {
     Turn { on, kept }
 }

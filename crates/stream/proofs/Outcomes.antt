@@ -1,8 +1,8 @@
 -- The answers of the calls, one law for each outcome, in the order in which the code comes to it.
 use mathlib.Core.Path.{_≡_, refl}
 use mathlib.Core.Bool.{Bool, true, false, not, true≢false}
-use mathlib.Core.List.{List, _++_}
-use Prim.Native.Nat.{ℕ, _+_, _-_, _*_, _/_, _%_, _≤_, _<_}
+use mathlib.Core.List.{List}
+use Prim.Native.Nat.{ℕ, _+_, _-_, _*_, _≤_, _<_}
 use native.Mathlib.Omega.{arith}
 use lib.Dec.{ltb, eqb}
 use lib.ListN.{length, take, drop}
@@ -15,7 +15,7 @@ use Rattle.refusals.proofs.Clear.{start-clear, piece-clear}
 use Rattle.cipher_numbers.specs.Ciphers.{isDirection}
 use Rattle.cipher.specs.Schedule.{bad, enciphered, deciphered}
 use Rattle.cipher.specs.declared.Schedule.{Schedule}
-use Rattle.cbc.specs.Cbc.{chain, blocks, Chained}
+use Rattle.cbc.specs.Cbc.{chain, Chained}
 use Rattle.pieces.specs.Pieces.{limit, held15}
 use Rattle.stream.specs.State.{streamOf, fresh, heldNumber, atHand, badState, zeroStream}
 use Rattle.stream.specs.Calls.{startRefusal, startedAs, start, made, pieceRefusal, fed, fedAs, fedBytes, feed, feedOut, finishRefusal, closedStream, finishedAs, finish}

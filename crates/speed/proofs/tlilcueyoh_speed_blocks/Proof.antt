@@ -1,14 +1,12 @@
 use borrow.Author.Needs.{needs}
-use mathlib.Core.Path.{_≡_, refl, sym, ap, _∙_}
-use mathlib.Core.Bool.{true}
+use mathlib.Core.Path.{_≡_, sym, ap, _∙_}
 use mathlib.Core.List.{List, _++_}
 use Prim.Native.Nat.{ℕ, _+_, _*_, _/_, _%_, _<_, _≤_}
 use native.Mathlib.Omega.{arith}
 use lib.ListN.{length, drop}
 use borrow.Author.Tests.{eq-eqb, ne-eqb, lt-ltb, le-ltb}
 use Rattle.refusals.specs.Refusals as refusal
-use Rattle.cbc.specs.Cbc.{join, whole, blocks}
-use Rattle.cipher_numbers.specs.Ciphers.{isLength}
+use Rattle.cbc.specs.Cbc.{join, whole}
 use Rattle.blocks_lent.specs.Ways.{F, each}
 use Rattle.blocks_lent.specs.declared.Way.{Way}
 use Rattle.cipher.specs.Schedule.{enciphered, deciphered}

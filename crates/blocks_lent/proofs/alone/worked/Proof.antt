@@ -1,5 +1,3 @@
-use mathlib.Core.Path.{_∙_}
-use borrow.Author.Needs.{needs}
 use borrow.Author.Tests.{eq-eqb, ne-eqb}
 use Rattle.blocks_lent.specs.Ways.{F}
 use Rattle.blocks_lent.proofs.alone.worked.Statement.{statement}

@@ -1,4 +1,3 @@
-use mathlib.Core.Path.{_≡_}
 use native.Mathlib.Omega.{arith}
 use Rattle.hex_text.specs.Hex.{white}
 use Rattle.hex_text.proofs.Ranges.{white-is, not-white}
