@@ -1,6 +1,7 @@
-/* Measures every work of works.h, for each cipher and direction and on a card, a line WORK NAME AMOUNT for each, an amount being that
-   of a block. `bench times`: the shortest of many runs in turn, in nanoseconds. `bench counts`, which callgrind runs:
-   a dump for each, called WORK NAME BLOCKS. host/bench makes its lines of both. */
+/* Measures every work of works.h, for each cipher and direction, on a card and for each cipher's seals, a line
+   WORK NAME AMOUNT for each, an amount being that of a block. `bench times`: the shortest of many runs in turn, in
+   nanoseconds. `bench counts`, which callgrind runs: a dump for each, called WORK NAME BLOCKS. host/bench makes its
+   lines of both. */
 #define _POSIX_C_SOURCE 199309L
 #include "works.h"
 
@@ -11,6 +12,11 @@
 
 /* Pieces of one byte take so long that they are run less often. */
 enum { REPEATS = 100, BYTES_EVERY = 10 };
+
+static int in_bytes(const struct work *work)
+{
+    return work == &works[OUR_BYTES] || work == &seal_works[OUR_SEAL_BYTES];
+}
 
 static double now(void)
 {
@@ -35,7 +41,7 @@ static void times(const char *name, const struct work *some, int n, int cipher, 
         best[w] = 1e12;
     for (int i = 0; i < REPEATS; i++)
         for (int w = 0; w < n; w++)
-            if (&some[w] != &works[OUR_BYTES] || i % BYTES_EVERY == 0)
+            if (!in_bytes(&some[w]) || i % BYTES_EVERY == 0)
                 shortest(&best[w], &some[w], cipher, direction);
     for (int w = 0; w < n; w++)
         printf("%s %s %.3f\n", some[w].name, name, best[w]);
@@ -70,5 +76,7 @@ int main(int argc, char **argv)
             measure(name, works, WORKS, cipher, direction);
         }
     measure("card", card_works, CARD_WORKS, 0, 0);
+    for (int cipher = HIEROCRYPT3; cipher <= NOEKEON_EARLIER; cipher++)
+        measure(ciphers[cipher], seal_works, SEAL_WORKS, cipher, ENCIPHER);
     return 0;
 }

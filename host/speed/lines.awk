@@ -2,7 +2,8 @@
 # the second, of which the least counts. `c-` stands before a work in C.
 FNR == 1 { file++ }
 !((file, $1, $2) in amount) || $3 < amount[file, $1, $2] { amount[file, $1, $2] = $3 }
-file == 2 && $1 == "blocks" && !named[$2]++ { names[++n] = $2 }
+file == 2 && $1 == "cbc" && !named[$2]++ { names[++n] = $2 }
+file == 2 && $1 == "seal" && !sealed[$2]++ { seals[++m] = $2 }
 
 # The amount of a work and its ratio to another's, in nanoseconds and then in instructions. With `calls`, the amount
 # is what is beyond the other's, shared among so many calls to a block.
@@ -27,4 +28,9 @@ END {
     line("good-", "card", "good", "c-good")
     line("find-", "card", "find", "c-find")
     line("pass-", "card", "find", "good", 1)
+    for (i = 1; i <= m; i++) {
+        line("seal-", seals[i], "seal", "blocks")
+        line("seal-piece-", seals[i], "seal-bytes", "blocks", 16)
+    }
+    line("omac-", "noekeon", "seal", "c-seal")
 }

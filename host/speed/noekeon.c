@@ -1,4 +1,4 @@
-/* Noekeon by libtomcrypt. */
+/* Noekeon by libtomcrypt, whose omac is the CMAC. */
 #include "speed.h"
 
 #include <stdio.h>
@@ -43,4 +43,10 @@ static void cbc_of(int direction, const uint8_t *key, const uint8_t *first, cons
     well(cbc_done(&cbc));
 }
 
-const struct yardstick noekeon_yardstick = { make_ready, blocks_of, cbc_of };
+static void seal_of(const uint8_t *key, const uint8_t *in, size_t length, uint8_t *seal)
+{
+    unsigned long room = 16;
+    well(omac_memory(number, key, 16, in, (unsigned long)length, seal, &room));
+}
+
+const struct yardstick noekeon_yardstick = { make_ready, blocks_of, cbc_of, seal_of };

@@ -1,5 +1,5 @@
-/* What the archives of crates/speed and crates/card_speed have for C. Each answers a refusal's number, or what is
-   found, and writes as the proved call does; crates/speed/specs/Works.antt has it in full. */
+/* What the archives of crates/speed, crates/card_speed and crates/seal_speed have for C. Each answers a refusal's
+   number, or what is found, and writes as the proved call does; specs/Works.antt of each crate has it in full. */
 #ifndef PROVED_H
 #define PROVED_H
 
@@ -22,5 +22,13 @@ uint64_t tlilcueyoh_speed_bytes(uint64_t cipher, uint64_t direction, const uint8
 
 uint64_t tlilcueyoh_speed_good(const uint8_t *card, size_t card_len);
 uint64_t tlilcueyoh_speed_find(const uint8_t *card, size_t card_len, uint64_t recipe, uint64_t segment);
+
+/* The input as one piece of a fresh seal, which is then written to the front of out: 16 bytes. */
+uint64_t tlilcueyoh_speed_seal(uint64_t cipher, const uint8_t *key, size_t key_len, const uint8_t *in, size_t in_len,
+                               uint8_t *out, size_t out_len);
+
+/* The same in pieces of one byte. */
+uint64_t tlilcueyoh_speed_seal_bytes(uint64_t cipher, const uint8_t *key, size_t key_len, const uint8_t *in,
+                                     size_t in_len, uint8_t *out, size_t out_len);
 
 #endif

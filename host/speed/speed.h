@@ -9,16 +9,20 @@ enum { HIEROCRYPT3 = 1, E2 = 2, NOEKEON = 3, NOEKEON_EARLIER = 4 };
 enum { ENCIPHER = 1, DECIPHER = 2 };
 
 /* A cipher under a key of 16 bytes, which is set up in each call: whole blocks, each by
-   itself or chained. */
+   itself or chained, and the seal of a message of any length, 16 bytes. */
 struct yardstick {
     /* once, before anything else */
     void (*make_ready)(void);
     void (*blocks)(int direction, const uint8_t *key, const uint8_t *in, uint8_t *out, size_t blocks);
     void (*cbc)(int direction, const uint8_t *key, const uint8_t *first, const uint8_t *in, uint8_t *out,
                 size_t blocks);
+    void (*seal)(const uint8_t *key, const uint8_t *in, size_t length, uint8_t *seal);
 };
 
 extern const struct yardstick hierocrypt3_yardstick, e2_yardstick, noekeon_yardstick;
+
+/* The seal over any cipher, for the bytes and not for the time: the key is set up for each block. */
+void cmac(const struct yardstick *cipher, const uint8_t *key, const uint8_t *in, size_t length, uint8_t *seal);
 
 static inline uint32_t left(uint32_t x, int n) { return x << n | x >> (32 - n); }
 

@@ -15,6 +15,9 @@ static const struct yardstick *const yardsticks[] = {
 static uint8_t key[16], first[16], in[BYTES], out[BYTES], other[BYTES];
 static uint8_t card[16 * SLOTS];
 
+/* How much of the input is sealed: all of it where that is measured. */
+static size_t sealed = BYTES;
+
 static void done(uint64_t answer)
 {
     if (answer == TLILCUEYOH_DONE)
@@ -60,6 +63,24 @@ static void our_bytes(int cipher, int direction)
     done(tlilcueyoh_speed_bytes(cipher, direction, key, 16, first, 16, in, BYTES, out, BYTES));
 }
 
+static void our_seal(int cipher, int direction)
+{
+    (void)direction;
+    done(tlilcueyoh_speed_seal(cipher, key, 16, in, sealed, out, BYTES));
+}
+
+static void c_seal(int cipher, int direction)
+{
+    (void)direction;
+    yardsticks[cipher]->seal(key, in, sealed, other);
+}
+
+static void our_seal_bytes(int cipher, int direction)
+{
+    (void)direction;
+    done(tlilcueyoh_speed_seal_bytes(cipher, key, 16, in, sealed, out, BYTES));
+}
+
 static void yes(uint64_t answer, uint64_t wanted)
 {
     if (answer == wanted)
@@ -97,6 +118,11 @@ const struct work card_works[CARD_WORKS] = {
     { "good", our_good, 1 }, { "c-good", c_good, 1 }, { "find", our_find, 1 }, { "c-find", c_find, 1 },
 };
 
+const struct work seal_works[SEAL_WORKS] = {
+    { "blocks", our_blocks, BLOCKS }, { "seal", our_seal, BLOCKS }, { "c-seal", c_seal, BLOCKS },
+    { "seal-bytes", our_seal_bytes, BLOCKS },
+};
+
 const struct work works[WORKS] = {
     { "blocks", our_blocks, BLOCKS }, { "c-blocks", c_blocks, BLOCKS },
     { "cbc", our_cbc, BLOCKS }, { "c-cbc", c_cbc, BLOCKS },
@@ -119,25 +145,38 @@ void make_ready(void)
     }
 }
 
-static void hold(int ours, int c, int cipher, int direction)
+static void hold(const struct work *ours, const struct work *c, int cipher, int direction)
 {
     memset(out, 0, BYTES);
     memset(other, 0, BYTES);
-    works[ours].run(cipher, direction);
-    works[c].run(cipher, direction);
+    ours->run(cipher, direction);
+    c->run(cipher, direction);
     if (memcmp(out, other, BYTES) == 0)
         return;
     fprintf(stderr, "bench: cipher %d, direction %d: %s and %s give different bytes\n", cipher, direction,
-            works[ours].name, works[c].name);
+            ours->name, c->name);
     exit(1);
+}
+
+/* Also short messages, and such as end within a block. The last length is the one that is measured. */
+static void hold_seals(int cipher)
+{
+    static const size_t lengths[] = { 0, 1, 15, 16, 17, 32, BYTES - 1, BYTES };
+    for (size_t i = 0; i < sizeof lengths / sizeof *lengths; i++) {
+        sealed = lengths[i];
+        hold(&seal_works[OUR_SEAL], &seal_works[C_SEAL], cipher, ENCIPHER);
+        hold(&seal_works[OUR_SEAL_BYTES], &seal_works[C_SEAL], cipher, ENCIPHER);
+    }
 }
 
 void hold_to_each_other(void)
 {
-    for (int cipher = HIEROCRYPT3; cipher <= NOEKEON; cipher++)
+    for (int cipher = HIEROCRYPT3; cipher <= NOEKEON; cipher++) {
         for (int direction = ENCIPHER; direction <= DECIPHER; direction++) {
-            hold(OUR_BLOCKS, C_BLOCKS, cipher, direction);
-            hold(OUR_CBC, C_CBC, cipher, direction);
-            hold(OUR_ENTRY, C_ENTRY, cipher, direction);
+            hold(&works[OUR_BLOCKS], &works[C_BLOCKS], cipher, direction);
+            hold(&works[OUR_CBC], &works[C_CBC], cipher, direction);
+            hold(&works[OUR_ENTRY], &works[C_ENTRY], cipher, direction);
         }
+        hold_seals(cipher);
+    }
 }

@@ -4,7 +4,8 @@
 
 #include "speed.h"
 
-/* 64 KiB in a call of `blocks`, `cbc` and `bytes`; so many calls of the entry in a row; so many full slots on the card. */
+/* 64 KiB in a call of `blocks`, `cbc`, `bytes` and the seals; so many calls of the entry in a row; so many full slots
+   on the card. */
 enum { BLOCKS = 4096, BYTES = 16 * BLOCKS, ENTRIES = 256, SLOTS = 256 };
 
 struct work {
@@ -16,6 +17,10 @@ struct work {
 
 enum { OUR_BLOCKS, C_BLOCKS, OUR_CBC, C_CBC, OUR_ENTRY, C_ENTRY, OUR_BYTES, WORKS };
 extern const struct work works[WORKS];
+
+/* The seals, whatever the direction, with the blocks that they are laid beside. */
+enum { SEALED_BLOCKS, OUR_SEAL, C_SEAL, OUR_SEAL_BYTES, SEAL_WORKS };
+extern const struct work seal_works[SEAL_WORKS];
 
 /* On a card, whatever the cipher and the direction. */
 enum { OUR_GOOD, C_GOOD, OUR_FIND, C_FIND, CARD_WORKS };

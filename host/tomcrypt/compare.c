@@ -5,6 +5,7 @@
 #include "../speed/speed.h"
 #include "../test/random.h"
 #include "../tlilcueyoh.h"
+#include "print.h"
 
 #include <stdio.h>
 #include <stdlib.h>
@@ -22,14 +23,6 @@ struct message {
 };
 
 static unsigned long blocks_compared, messages_compared, others;
-
-static void print_bytes(const char *name, const uint8_t *bytes, size_t length)
-{
-    fprintf(stderr, "  %-11s ", name);
-    for (size_t i = 0; i < length; i++)
-        fprintf(stderr, "%02x", bytes[i]);
-    fprintf(stderr, "\n");
-}
 
 static void fails(const struct message *message, const char *what, uint64_t answer)
 {

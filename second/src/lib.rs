@@ -1,4 +1,4 @@
-//! The second program: document 01 and requests 1 and 2 of document 02 once more, by
+//! The second program: document 01 and requests 1 to 3 of document 02 once more, by
 //! another road than a fast program would take, so that its answers can be held against
 //! those of the product.
 
@@ -6,6 +6,7 @@ pub mod bytes;
 pub mod card;
 pub mod cbc;
 pub mod cipher;
+pub mod cmac;
 pub mod e2;
 pub mod edges;
 pub mod entry;
@@ -16,4 +17,5 @@ pub mod noekeon;
 pub mod random;
 pub mod refusal;
 pub mod replay;
+pub mod seal;
 pub mod stream;

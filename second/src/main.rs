@@ -12,7 +12,8 @@ const USAGE: &str = "usage: second replay DIR [blocks]
        second check DIR [blocks]
        second run < SCRIPT > ANSWERS
        second edges cards
-       second edges ciphers";
+       second edges ciphers
+       second edges seals";
 
 fn main() -> ExitCode {
     let arguments: Vec<String> = std::env::args().skip(1).collect();
@@ -25,6 +26,7 @@ fn main() -> ExitCode {
         ["run"] => interpret(),
         ["edges", "cards"] => write_out(edges::cards().as_bytes()),
         ["edges", "ciphers"] => write_out(edges::ciphers().as_bytes()),
+        ["edges", "seals"] => write_out(edges::seals().as_bytes()),
         _ => {
             eprintln!("{USAGE}");
             return ExitCode::from(2);

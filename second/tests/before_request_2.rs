@@ -3,6 +3,9 @@
 //! the edge cases of the ciphers.
 //! Follows document 02, request 2, and the page on replay.
 
+mod old_parts;
+
+use old_parts::{digest, old_part};
 use second::bytes::part;
 use second::edges::ciphers;
 use second::replay::call::Call;
@@ -20,22 +23,7 @@ const BEFORE: [(usize, u64); 2] = [
 /// product's `crates/edges/stdout` before request 2.
 const EDGES_BEFORE: (usize, u64) = (5148, 0x35F1_C05D_8E77_DEFB);
 
-/// FNV-1a in 64 bits.
-fn digest(bytes: &[u8]) -> u64 {
-    bytes.iter().fold(0xCBF2_9CE4_8422_2325, |hash, &byte| {
-        (hash ^ u64::from(byte)).wrapping_mul(0x0000_0100_0000_01B3)
-    })
-}
-
-/// The part of today's file that stood there before; each number takes as many bytes.
-fn old_part(name: &str, (length, _): (usize, u64)) -> Vec<u8> {
-    let path = format!("{}/replay/{name}", env!("CARGO_MANIFEST_DIR"));
-    let mut bytes = std::fs::read(path).unwrap();
-    bytes.truncate(length);
-    bytes
-}
-
-/// The number that stood where `today` stands: 3 was the earlier Noekeon, and 4 was
+/// The number that stood where `today` stands, and took as many bytes: 3 was the earlier Noekeon, and 4 was
 /// illegal, in whose place stands 7. Today's 3 is new, and no old part has it.
 fn before(today: u64) -> u64 {
     assert_ne!(today, 3, "an old part has today's number 3");
@@ -74,6 +62,7 @@ fn written(call: &Call, answers: &[u8]) -> (usize, usize) {
         Call::IsGood { .. } => (1, 0),
         Call::Find { .. } => (4 + u32::from_be_bytes(part(answers, 0)) as usize, 0),
         Call::Put { card, .. } => (1 + card.len(), 0),
+        _ => panic!("an old part has call {:02X}", call.number()),
     }
 }
 

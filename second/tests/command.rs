@@ -94,7 +94,11 @@ fn run_interprets_standard_input() {
 
 #[test]
 fn edges_prints_the_edge_cases() {
-    for (word, text) in [("cards", edges::cards()), ("ciphers", edges::ciphers())] {
+    for (word, text) in [
+        ("cards", edges::cards()),
+        ("ciphers", edges::ciphers()),
+        ("seals", edges::seals()),
+    ] {
         let output = second(&["edges", word]);
         assert!(output.status.success());
         assert_eq!(output.stdout, text.into_bytes());
@@ -117,6 +121,9 @@ fn anything_else_is_answered_with_the_usage() {
         &["edges", "cards", "here"],
         &["edges", "cards", "ciphers"],
         &["edges", "ciphers", "3"],
+        &["edges", "seal"],
+        &["edges", "seals", "3"],
+        &["replay", "here", "seals"],
         &["help"],
     ] {
         let output = second(arguments);

@@ -1,10 +1,15 @@
-//! The edge cases of recipe cards as a person would write them down, and those of the
-//! ciphers with every block computed by the C entry and the definition of CBC alone.
-//! Follows document 02, requests 1 and 2, document 01, 'Marked cases', its last
-//! paragraph, and the definition of CBC in NIST SP 800-38A.
+//! The edge cases of recipe cards as a person would write them down, those of the
+//! ciphers with every block computed by the C entry and the definition of CBC alone, and
+//! those of seals with every seal computed by the one block call and the steps of CMAC.
+//! Follows document 02, requests 1 to 3, document 01, 'Marked cases', its last paragraph,
+//! and the definitions of CBC in NIST SP 800-38A and of CMAC in SP 800-38B.
 
+mod cmac_by_bytes;
+
+use cmac_by_bytes::cmac;
 use second::bytes::{part, xor, Block};
-use second::edges::{cards, ciphers};
+use second::cipher::{encipher_block, set_up};
+use second::edges::{cards, ciphers, seals};
 use second::entry::entry;
 
 const SAID_OF_CARDS: &str = "\
@@ -185,4 +190,74 @@ fn number_3_has_the_blocks_of_libtomcrypt() {
         let lines = text[from..to].lines();
         assert_eq!(lines.filter(|line| line.ends_with(end)).count(), 1, "{end}");
     }
+}
+
+/// What is said of each cipher's seals but for the messages of each length: `<16>` and
+/// `<33>` stand for the seals of so many bytes, `<million>` for that of the million, and
+/// `<ee>` for an output as it was.
+const SAID_OF_SEALS: &str = "  \
+  16 bytes, then an empty piece: answer 0, holds 16, then the seal: answer 0, output <16>
+  33 bytes, the seal into 15 of room: answer 9, output eeeeeeeeeeeeeeeeeeeeeeeeeeeeee
+  then into 17 of room: answer 0, output <33>ee
+  then once more: answer 7, output <ee>
+  then a piece of 1: answer 7, holds 1
+  then a check of the seal: answer 7, no
+  33 bytes, a check of 0 bytes: answer 0, no
+  33 bytes, a check of 15 bytes: answer 0, no
+  33 bytes, a check of 16 bytes: answer 0, yes
+  then once more: answer 7, no
+  33 bytes, a check of 17 bytes: answer 0, no
+  33 bytes, a check of 16 bytes with the last bit changed: answer 0, no
+  then the right 16 bytes: answer 7, no
+  1048576 bytes at once: answer 0, holds 16
+  then 1 more: answer 8, holds 16
+  then an empty piece: answer 0, holds 16
+  then the seal: answer 0, output <million>
+";
+
+const SAID_OF_STARTS: &str = "  \
+  a start under a refused schedule: answer 5
+  then a piece of 1: answer 6, holds 0
+  a start: answer 0
+";
+
+/// Each length with the number of bytes that are held.
+const LENGTHS: [(usize, usize); 8] = [
+    (0, 0),
+    (1, 1),
+    (15, 15),
+    (16, 16),
+    (17, 1),
+    (31, 15),
+    (32, 16),
+    (33, 1),
+];
+
+fn said_of_seals(cipher: u64) -> String {
+    let schedule = set_up(cipher, b"0123456789abcdef").schedule;
+    let e = |block: Block| part(&encipher_block(&schedule, &block, &[0; 16]).out, 0);
+    let message = b"the message of thirty-three bytes";
+    let seal = |length: usize| hex(cmac(&e, &message[..length]));
+    let lines = LENGTHS.map(|(n, held)| {
+        let line = |pieces: String| {
+            let seal = seal(n);
+            format!(
+                "  {n} bytes in {pieces}: answer 0, holds {held}, \
+                 then the seal: answer 0, output {seal}\n"
+            )
+        };
+        line("one piece".to_string()) + &line(format!("{n} pieces of 1"))
+    });
+    let rest = SAID_OF_SEALS
+        .replace("<16>", &seal(16))
+        .replace("<33>", &seal(33))
+        .replace("<million>", &hex(cmac(&e, &vec![3; 1_048_576])))
+        .replace("<ee>", &hex(AS_IT_WAS));
+    let heading = format!("cipher {cipher}\n");
+    [heading, SAID_OF_STARTS.to_string(), lines.concat(), rest].concat()
+}
+
+#[test]
+fn the_edge_cases_of_seals_are_as_said() {
+    is_as_said(&seals(), &[1, 2, 3, 4].map(said_of_seals).concat());
 }

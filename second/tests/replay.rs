@@ -7,8 +7,10 @@ use second::noekeon::{DESIGNERS, EARLIER};
 use second::replay::call::{Buffer, Call};
 use second::replay::interpreter::Kept;
 use second::replay::reader::Reader;
-use second::replay::record::{schedule_bytes, stream_bytes, CLOSED};
+use second::replay::record::{schedule_bytes, seal_bytes, seal_from, stream_bytes};
+use second::replay::record::{CLOSED, SEAL_CLOSED};
 use second::replay::{run, script, Extent};
+use second::seal;
 use second::stream::{feed, start};
 use std::collections::{BTreeMap, BTreeSet};
 
@@ -22,7 +24,7 @@ fn the_committed_files_are_what_is_written_today() {
     let script = script(Extent::Whole);
     assert!(committed("script") == script, "the script differs");
     assert!(committed("answers") == run(&script), "the answers differ");
-    assert!(script.len() < 1_200_000 && run(&script).len() < 1_200_000);
+    assert!(script.len() < 1_400_000 && run(&script).len() < 1_800_000);
 }
 
 #[test]
@@ -57,19 +59,33 @@ fn the_parts_hold_the_calls_they_are_for() {
     let blocks = script(Extent::Blocks);
     assert_eq!(numbers(&blocks), BTreeSet::from([1, 2, 3, 7, 8]));
     let whole = script(Extent::Whole);
-    assert_eq!(numbers(&whole), BTreeSet::from_iter(1..=0x0C));
+    assert_eq!(numbers(&whole), BTreeSet::from_iter(1..=0x11));
 }
 
-/// The calls before and behind the cards part, which no other call stands within.
-fn around_the_cards_part() -> (Vec<Call>, Vec<Call>) {
-    let mut before = calls(&script(Extent::Whole));
-    let of_cards = |call: &Call| call.number() > 9;
-    let first = before.iter().position(of_cards).unwrap();
-    let mut cards = before.split_off(first);
+/// The calls of the base, of request 2 and of request 3.
+struct Parts {
+    base: Vec<Call>,
+    request_2: Vec<Call>,
+    request_3: Vec<Call>,
+}
+
+/// No other call stands within the cards part, and the seals part begins with a call on
+/// seals.
+fn parts() -> Parts {
+    let mut base = calls(&script(Extent::Whole));
+    let of_cards = |call: &Call| (0x0A..=0x0C).contains(&call.number());
+    let of_seals = |call: &Call| call.number() > 0x0C;
+    let first = |calls: &[Call], of: fn(&Call) -> bool| calls.iter().position(of).unwrap();
+    let request_3 = base.split_off(first(&base, of_seals));
+    let mut cards = base.split_off(first(&base, of_cards));
     let length = cards.iter().take_while(|call| of_cards(call)).count();
-    let behind = cards.split_off(length);
-    assert!(!behind.iter().any(of_cards));
-    (before, behind)
+    let request_2 = cards.split_off(length);
+    assert!(!request_2.iter().chain(&request_3).any(of_cards));
+    Parts {
+        base,
+        request_2,
+        request_3,
+    }
 }
 
 /// The cipher number that a call hands in.
@@ -78,13 +94,18 @@ fn handed_in(call: &Call) -> Option<u64> {
         Call::SetUp { cipher, .. } | Call::Entry { cipher, .. } => Some(*cipher),
         Call::KeepSchedule(record) => Some(record[0].into()),
         Call::KeepStream(record) => Some(record[0].into()),
+        Call::KeepSeal(record) => Some(record[0].into()),
         _ => None,
     }
 }
 
 #[test]
 fn number_3_is_handed_in_behind_the_cards_part_alone_and_there_by_every_call() {
-    let (before, behind) = around_the_cards_part();
+    let Parts {
+        base: before,
+        request_2: behind,
+        ..
+    } = parts();
     let handing_in = |calls: &[Call], number| -> BTreeSet<u8> {
         let calls = calls.iter().filter(|call| handed_in(call) == Some(number));
         calls.map(Call::number).collect()
@@ -111,7 +132,7 @@ fn keys_and_answers(calls: Vec<Call>, number: u8) -> BTreeSet<(u64, usize, u8)> 
 
 #[test]
 fn request_2_has_its_refusals_1_and_2_in_the_script() {
-    let (_, behind) = around_the_cards_part();
+    let behind = parts().request_2;
     for number in [1, 7] {
         let found = keys_and_answers(behind.clone(), number);
         for cipher in [0, 5, 259, 260, (1 << 32) + 3, (1 << 63) + 4, u64::MAX] {
@@ -132,7 +153,7 @@ fn marked_behind_16(record: &[u8]) -> bool {
 
 #[test]
 fn request_2_has_round_keys_behind_16_in_the_script_and_refuses_them() {
-    let (_, behind) = around_the_cards_part();
+    let behind = parts().request_2;
     let mut found = BTreeSet::new();
     for two in behind.windows(2) {
         let record = match &two[0] {
@@ -152,7 +173,7 @@ fn request_2_has_round_keys_behind_16_in_the_script_and_refuses_them() {
 /// Entries that are alike but for their number, with what came back.
 #[test]
 fn the_same_bytes_under_3_and_4_are_in_the_script_and_give_other_blocks() {
-    let (_, behind) = around_the_cards_part();
+    let behind = parts().request_2;
     let mut kept = Kept::ZERO;
     let mut blocks: BTreeMap<Vec<u8>, BTreeMap<u64, Vec<u8>>> = BTreeMap::new();
     for call in behind {
@@ -190,6 +211,10 @@ fn every_answer_of_every_call_occurs() {
         (0x0A, BTreeSet::from([0, 1])),
         (0x0B, BTreeSet::from([0])),
         (0x0C, BTreeSet::from([0, 12, 13, 14])),
+        (0x0D, BTreeSet::from([0, 5])),
+        (0x0E, BTreeSet::from([0, 6, 7, 8])),
+        (0x0F, BTreeSet::from([0, 6, 7, 9])),
+        (0x10, BTreeSet::from([0, 6, 7])),
     ]);
     assert_eq!(answers, expected);
 }
@@ -202,6 +227,131 @@ fn finds_with_and_without_a_slot_occur() {
     let mut kept = Kept::ZERO;
     let lengths: BTreeSet<usize> = finds.map(|call| kept.make(call).len()).collect();
     assert_eq!(lengths, BTreeSet::from([4, 20]));
+}
+
+/// The calls of request 3 on seals, each with the state before it and what is written.
+fn seal_calls() -> Vec<(Call, seal::Seal, Vec<u8>)> {
+    let mut kept = Kept::ZERO;
+    let mut state = seal::Seal::ZERO;
+    let mut made = Vec::new();
+    for call in parts().request_3 {
+        let back = kept.make(call.clone());
+        let before = state.clone();
+        match &call {
+            Call::KeepSeal(record) => state = seal_from(record),
+            call if call.number() > 0x0C => {
+                let record = back[back.len() - 331..].try_into().unwrap();
+                state = seal_from(&record);
+                made.push((call.clone(), before, back));
+            }
+            _ => {}
+        }
+    }
+    made
+}
+
+#[test]
+fn checks_that_say_yes_and_checks_that_say_no_occur() {
+    let calls = seal_calls().into_iter();
+    let checks = calls.filter(|(call, ..)| call.number() == 0x10);
+    let said: BTreeSet<(u8, u8)> = checks.map(|(_, _, back)| (back[0], back[1])).collect();
+    assert_eq!(said, BTreeSet::from([(0, 0), (0, 1), (6, 0), (7, 0)]));
+}
+
+/// Complete and padded ends for every cipher and key length, and for each two bits that L
+/// can begin with.
+#[test]
+fn seals_of_every_kind_are_written() {
+    let mut ends: BTreeMap<(u8, u8), BTreeSet<usize>> = BTreeMap::new();
+    let mut doublings: BTreeSet<(u8, u8, bool)> = BTreeSet::new();
+    for (call, state, back) in seal_calls() {
+        if call.number() == 0x0F && back[0] == 0 {
+            let schedule = &state.schedule;
+            let bits = schedule.encipher([0; 16])[0] >> 6;
+            let complete = state.held_number() == 16;
+            doublings.insert((schedule.cipher, bits, complete));
+            let cipher = (schedule.cipher, schedule.key_length);
+            ends.entry(cipher).or_default().insert(state.held_number());
+        }
+    }
+    assert_eq!(doublings.len(), 4 * 4 * 2);
+    assert_eq!(ends.len(), 8);
+    assert!(ends.values().all(|held| held.contains(&0)));
+    assert!(ends.values().all(|held| held.contains(&15)));
+    assert!(ends.values().all(|held| held.contains(&16)));
+    let all: BTreeSet<usize> = ends.into_values().flatten().collect();
+    assert_eq!(all, BTreeSet::from_iter(0..=16));
+}
+
+/// Each length up to 50 as one piece of a fresh seal.
+#[test]
+fn messages_of_0_to_50_bytes_are_sealed() {
+    let calls = seal_calls();
+    let lengths: BTreeSet<u64> = calls
+        .windows(3)
+        .filter(|three| three[0].0.number() == 0x0D && three[2].0.number() == 0x0F)
+        .map(|three| three[2].1.count)
+        .collect();
+    assert!((0..=50).all(|length| lengths.contains(&length)));
+}
+
+/// The causes of a bad state, one bit each; a refused call shows which it had.
+fn causes(state: &seal::Seal) -> u8 {
+    let unused = &state.held[state.held_number()..];
+    let causes = [
+        state.schedule.is_bad(),
+        state.count > seal::Seal::LIMIT,
+        unused.iter().any(|&byte| byte != 0),
+        state.count <= 16 && state.chain != [0; 16],
+    ];
+    (0..).zip(causes).map(|(i, c)| u8::from(c) << i).sum()
+}
+
+#[test]
+fn each_cause_of_a_bad_state_stands_alone_before_each_call_open_and_closed() {
+    let mut found: BTreeSet<(u8, u8, bool)> = BTreeSet::new();
+    for (call, state, back) in seal_calls() {
+        let bad = causes(&state) != 0;
+        assert_eq!(back[0] == 6, bad && call.number() != 0x0D);
+        if bad {
+            found.insert((call.number(), causes(&state), state.closed));
+        }
+    }
+    for call in 0x0D..=0x10 {
+        for cause in [1, 2, 4, 8] {
+            assert!(found.contains(&(call, cause, false)), "{call} {cause}");
+            assert!(found.contains(&(call, cause, true)), "{call} {cause}");
+        }
+    }
+}
+
+/// Over the limit while closed or bad, and without room while closed or bad.
+#[test]
+fn every_order_of_refusals_of_a_seal_occurs() {
+    let mut found: BTreeSet<(u8, bool, bool, bool, u8)> = BTreeSet::new();
+    for (call, state, back) in seal_calls() {
+        let third = match &call {
+            Call::PieceOfSeal { piece } => {
+                u128::from(state.count) + piece.len() as u128 > 1_048_576
+            }
+            Call::WriteSeal { buffer } => buffer.room < 16,
+            Call::CheckSeal { given } => given.len() != 16,
+            _ => continue,
+        };
+        let bad = causes(&state) != 0;
+        found.insert((call.number(), bad, state.closed, third, back[0]));
+    }
+    let mut expected = BTreeSet::new();
+    for (call, last) in [(0x0E, 8), (0x0F, 9), (0x10, 0)] {
+        for closed in [false, true] {
+            for third in [false, true] {
+                let second = if third { last } else { 0 };
+                expected.insert((call, true, closed, third, 6));
+                expected.insert((call, false, closed, third, if closed { 7 } else { second }));
+            }
+        }
+    }
+    assert_eq!(found, expected);
 }
 
 fn hex(text: &str) -> Vec<u8> {
@@ -282,6 +432,120 @@ fn the_records_lie_as_the_page_says() {
     ];
     assert_eq!(bytes[..], expected.concat());
     assert_eq!(CLOSED, 330);
+}
+
+#[test]
+fn a_seal_byte_by_byte() {
+    let schedule = set_up(3, &hex(KEY)).schedule;
+    let started = seal::start(&schedule).seal;
+    let fed = seal::feed(&started, &[0xAA, 0xBB, 0xCC]).seal;
+    let sealed = fed.sealed();
+    let script = [
+        set_up_call(),
+        hex("0D 0E 00000003 AABBCC 0F 0000000F 66 0F 00000012 66 10 00000000"),
+        [&[0x11][..], &seal_bytes(&fed)].concat(),
+        [&hex("10 00000010")[..], &sealed].concat(),
+    ];
+    let closed = seal::write(&fed, &[0; 16]).seal;
+    let expected = [
+        &[0][..],
+        &schedule_bytes(&schedule),
+        &[0],
+        &seal_bytes(&started),
+        &[0],
+        &seal_bytes(&fed),
+        &[9],
+        &[0x66; 15],
+        &seal_bytes(&fed),
+        &[0],
+        &sealed,
+        &[0x66; 2],
+        &seal_bytes(&closed),
+        &[7, 0],
+        &seal_bytes(&closed),
+        &[0, 1],
+        &seal_bytes(&closed),
+    ];
+    assert_eq!(run(&script.concat()), expected.concat());
+}
+
+/// The 331 bytes of a seal state: schedule, count, chain, held, closed.
+#[test]
+fn a_seal_state_lies_as_the_page_says() {
+    let schedule = set_up(3, &hex(KEY)).schedule;
+    let chain = schedule.encipher(hex(BLOCK).try_into().unwrap());
+    let message = [hex(BLOCK), vec![0x99; 3]].concat();
+    let seal = seal::feed(&seal::start(&schedule).seal, &message).seal;
+    let bytes = seal_bytes(&seal::check(&seal, &[]).seal);
+    let expected = [
+        hex("03 10"),
+        hex(KEY),
+        vec![0; 272],
+        hex("0000000000000013"),
+        chain.to_vec(),
+        hex("999999"),
+        vec![0; 13],
+        vec![1],
+    ];
+    assert_eq!(bytes[..], expected.concat());
+    assert_eq!(seal_bytes(&seal_from(&bytes)), bytes);
+    assert_eq!(SEAL_CLOSED, 330);
+}
+
+#[test]
+fn the_seal_state_is_all_zero_at_the_beginning() {
+    let script = "0E 00000000 0F 00000002 77 10 00000001 00 0D";
+    let zero = &[0; 331][..];
+    let expected = [
+        &[6][..],
+        zero,
+        &[6, 0x77, 0x77],
+        zero,
+        &[6, 0],
+        zero,
+        &[5],
+        zero,
+    ];
+    assert_eq!(run(&hex(script)), expected.concat());
+}
+
+#[test]
+fn a_closed_byte_over_1_of_a_seal_counts_as_1() {
+    let schedule = set_up(3, &hex(KEY)).schedule;
+    for closed in [1, 2, 0x80, 0xFF] {
+        let mut bytes = seal_bytes(&seal::start(&schedule).seal);
+        bytes[SEAL_CLOSED] = closed;
+        let answers = run(&[&[0x11][..], &bytes, &hex("0E 00000000")].concat());
+        bytes[SEAL_CLOSED] = 1;
+        assert_eq!(answers, [&[7][..], &bytes].concat());
+    }
+}
+
+/// The calls on seals between those on the schedule and the stream, and the other way.
+#[test]
+fn seal_and_stream_leave_each_other() {
+    let of_stream = [
+        hex(&format!("04 0000000000000001 00000010 {BLOCK}")),
+        hex("05 00000003 AABBCC 00000000 00"),
+        hex("06"),
+    ];
+    let of_seal = [hex("0D"), hex("0E 00000003 AABBCC"), hex("0F 00000010 00")];
+    let alone = |calls: &[Vec<u8>]| run(&[set_up_call(), calls.concat()].concat());
+    let mut both = vec![set_up_call()];
+    for (stream, seal) in of_stream.iter().zip(&of_seal) {
+        both.extend([stream.clone(), seal.clone()]);
+    }
+    let answers = run(&both.concat());
+    let (streams, seals) = (alone(&of_stream), alone(&of_seal));
+    let expected = [
+        &streams[..291 + 332],
+        &seals[291..291 + 332],
+        &streams[291 + 332..291 + 332 + 340],
+        &seals[291 + 332..291 + 664],
+        &streams[291 + 332 + 340..],
+        &seals[291 + 664..],
+    ];
+    assert_eq!(answers, expected.concat());
 }
 
 #[test]
@@ -405,7 +669,7 @@ fn an_empty_script_has_no_answers() {
 
 #[test]
 fn an_unknown_call_ends_with_ff() {
-    for number in [0, 0x0D, 0x0E, 0x7F, 0xFF] {
+    for number in [0, 0x12, 0x13, 0x7F, 0xFF] {
         let script = [set_up_call(), vec![number], set_up_call()].concat();
         let answers = run(&script);
         assert_eq!(answers.len(), 292);
@@ -435,6 +699,8 @@ fn a_length_over_8192_ends_with_ff() {
         ("0B", EMPTY),
         ("0C", "00000000"),
         ("0C 00000000", ""),
+        ("0E", ""),
+        ("10", ""),
     ] {
         let with = |length: usize| {
             let string = [hex(&format!("{length:08X}")), vec![0; length]];
@@ -443,6 +709,8 @@ fn a_length_over_8192_ends_with_ff() {
         assert_ne!(run(&with(8192)).last(), Some(&0xFF));
         assert_eq!(run(&with(8193)), [0xFF]);
     }
+    assert_eq!(run(&hex("0F 00002000 01")).len(), 1 + 8192 + 331);
+    assert_eq!(run(&hex("0F 00002001 01")), [0xFF]);
 }
 
 #[test]
@@ -465,6 +733,10 @@ fn a_script_cut_anywhere_within_a_call_ends_with_ff() {
             "0B 00000010 {SLOT} 0000000000000001 0000000000000001"
         )),
         hex(&format!("0C 00000010 {EMPTY} 00000010 {SLOT}")),
+        hex(&format!("0E 00000010 {BLOCK}")),
+        hex("0F 00000010 00"),
+        hex(&format!("10 00000010 {BLOCK}")),
+        [vec![0x11], vec![0; 331]].concat(),
     ];
     for call in calls {
         assert_ne!(run(&call), [0xFF]);

@@ -77,3 +77,28 @@ pub fn run_with(
     }
     last
 }
+
+// The chain block behind n blocks of a message that are enciphered; nothing is written.
+pub fn last_with(
+    sbox: &[u8],
+    table: &[u32],
+    keys: &[u8; 288],
+    way: Way,
+    chain: [u8; 16],
+    first: [u8; 16],
+    rest: &[u8],
+    n: usize,
+) -> [u8; 16]
+    requires { ⌜ Lent way (now sbox) (now table) × LegalWay way × (way .direction ≡ 1) × (16 * n ≤ 16 + length (now rest)) ⌝ }
+    ensures { λ r. ⌜ r ≡ cbc.chain (E way (now (keys .entry))) 1 chain (cbc.blocks n (first ++ now (rest .entry))) ⌝ }
+{
+    let mut last = chain;
+    let mut i = 0;
+    while i < n {
+        let x = block_of(first, rest, i);
+        let y = enciphered(sbox, table, keys, way, words::bytes::xor16(x, last));
+        last = y;
+        i += 1;
+    }
+    last
+}

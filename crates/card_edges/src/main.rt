@@ -2,8 +2,8 @@
 mod records;
 mod show;
 
+use edge_words::front;
 use records::empty;
-use records::front;
 use records::full;
 use records::record;
 use records::standard;

@@ -56,11 +56,3 @@ pub fn full() -> [u8; 4112] {
     }
     card
 }
-
-// The first n bytes, or all of them.
-pub fn front(bytes: &[u8], n: usize) -> &[u8] {
-    if n <= bytes.len() {
-        return &bytes[..n];
-    }
-    bytes
-}

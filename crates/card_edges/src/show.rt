@@ -1,22 +1,7 @@
 // What is shown of a card: whether it is good, what a find hands back, what a put answers and changes.
-use libc::STDOUT_FILENO;
-
-fn say(words: &[u8]) {
-    io::write_all(STDOUT_FILENO, words);
-}
-
-fn number(words: &[u8], n: u64) {
-    say(words);
-    io::print_decimal(STDOUT_FILENO, n);
-}
-
-fn hex(bytes: &[u8]) {
-    let mut i: usize = 0;
-    while i < bytes.len() {
-        io::print_hex(STDOUT_FILENO, bytes[i] as u64, 2);
-        i += 1;
-    }
-}
+use edge_words::hex;
+use edge_words::number;
+use edge_words::say;
 
 pub fn card(name: &[u8], card: &[u8]) {
     say(name);

@@ -1,10 +1,11 @@
 -- Loops that take a message w block by block and write a block to the output o in each turn: the invariant of the output, and, over any block functions, that of CBC.
-use mathlib.Core.Path.{_≡_, sym, ap, _∙_}
+use mathlib.Core.Path.{_≡_, sym, ap, ap₂, _∙_}
 use mathlib.Core.List.{List, [], _∷_, _++_, append-nil}
 use Prim.Native.Nat.{ℕ, _+_, _*_, _≤_}
 use native.Mathlib.Omega.{arith}
 use lib.ListN.{length, take, drop, length-append, length-drop}
 use lib.Seq.{drop-drop, take-at, drop-at}
+use Rattle.laws.specs.Bytes.{xorL}
 use Rattle.cbc.specs.Cbc.{out, chain, join, blocks, Chained}
 use Rattle.cbc.proofs.Parts.{blocks-add, join-append, out-append, chain-append, out-none, chain-none}
 
@@ -76,3 +77,11 @@ module _ (E D : List ℕ → List ℕ) (d : ℕ) (c w o : List ℕ) where
 
   pub running-end : (j n : ℕ) {last now : List ℕ} → j ≡ n → Running j last now → Chained E D d c w o n last now
   running-end j n e r = rw (← e) (record { last-is = r .last-is; out-is = r .laid .now-is })
+
+-- ---- enciphered from the chain block c, with nothing written: one block more
+pub chain-next : (E : List ℕ → List ℕ) (c w : List ℕ) (j : ℕ) (last x m y : List ℕ) → last ≡ chain E 1 c (blocks j w) → x ≡ block w j
+    → m ≡ xorL 16 x last → y ≡ E m → y ≡ chain E 1 c (blocks (j + 1) w)
+unfolding chain
+chain-next E c w j last x m y el ex em ey =
+    ey ∙ ap E (em ∙ ap₂ (xorL 16) ex el)
+    ∙ sym (ap (chain E 1 c) (blocks-add j 1 w) ∙ chain-append E E 1 c (blocks j w) (block w j ∷ []))

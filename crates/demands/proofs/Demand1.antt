@@ -10,6 +10,7 @@ use lib.ListN.{length, drop, replicate, length-drop}
 use lib.Seq.{drop-at}
 use borrow.Author.Tests.{eq-eqb, ne-eqb, le-ltb, eqb-true, eqb-false}
 use Rattle.runs.specs.Zeros.{zeros}
+use Rattle.runs.proofs.Fill.{zeros-replicate}
 use Rattle.refusals.specs.Refusals as refusal
 use Rattle.pieces.specs.Pieces.{limit, held15}
 use Rattle.stream.specs.State.{heldNumber, atHand, badState}
@@ -20,7 +21,6 @@ use Rattle.stream.specs.declared.Finished.{Finished}
 use Rattle.pieces.proofs.Hand.{hand-length}
 use Rattle.stream.proofs.Outcomes.{good, good-open, closed-held, accepted-piece, finish-refused, finish-accepted}
 use Rattle.demands.proofs.Answers.{finish-closed, finish-held, finish-done}
-use Rattle.demands.proofs.Demand3.{zeros-replicate}
 
 -- ---- a piece, by its refusal
 module _ (s : Stream) (p : List ℕ) (room : ℕ) where

@@ -11,6 +11,7 @@ use lib.Seq.{take-at, drop-at}
 use borrow.Author.Tests.{eq-eqb, ne-eqb, le-ltb, eqb-true}
 use Rattle.laws.specs.Choice.{choose}
 use Rattle.runs.specs.Zeros.{zeros}
+use Rattle.runs.proofs.Fill.{zeros-replicate}
 use Rattle.refusals.specs.Refusals as refusal
 use Rattle.cipher_numbers.specs.Ciphers.{isDirection}
 use Rattle.cipher.specs.Schedule.{bad, enciphered, deciphered}
@@ -30,10 +31,6 @@ use Rattle.stream.specs.declared.Finished.{Finished}
 use Rattle.stream.proofs.Outcomes as outcomes
 use Rattle.stream.proofs.Outcomes.{good-open, closed-held}
 use Rattle.demands.proofs.Answers.{piece-closed, finish-closed}
-
-pub zeros-replicate : (n : ℕ) → zeros (replicate n 0) ≡ true
-zeros-replicate zero = refl
-zeros-replicate (suc n) = zeros-replicate n
 
 module _ (s : Schedule) (d : ℕ) (c : List ℕ) where
   abbrev E : List ℕ → List ℕ

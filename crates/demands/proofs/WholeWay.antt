@@ -19,19 +19,22 @@ use Rattle.demands.specs.Demand3.{Call, acceptedBytes, writtenBytes}
 use Rattle.demands.proofs.Keys.{set-up-good}
 use Rattle.demands.proofs.AnyCut.{written-is}
 
-module _ (n : ℕ) (key : List ℕ) (legal : isLength n (length key) ≡ true) (d : ℕ) (directed : isDirection d ≡ true)
-    (first : List ℕ) (block : length first ≡ 16) where
+-- ---- set-up, of every legal key
+module _ (n : ℕ) (key : List ℕ) (legal : isLength n (length key) ≡ true) where
   pub set-up-accepts : setUp n key .answer ≡ done
   unfolding setUp setUpRefusal
   set-up-accepts = rw (legal-cipher n (length key) legal, legal)
 
-  made : setUp n key .schedule ≡ schedule n key
+  pub made : setUp n key .schedule ≡ schedule n key
   unfolding setUp setUpRefusal
   made = rw (legal-cipher n (length key) legal, legal)
 
+-- ---- and a stream
+module _ (n : ℕ) (key : List ℕ) (legal : isLength n (length key) ≡ true) (d : ℕ) (directed : isDirection d ≡ true)
+    (first : List ℕ) (block : length first ≡ 16) where
   pub start-accepts : start (setUp n key .schedule) d first .answer ≡ done
   unfolding start startRefusal
-  start-accepts = rw (made, set-up-good n key legal, directed, eq-eqb _ _ block)
+  start-accepts = rw (made n key legal, set-up-good n key legal, directed, eq-eqb _ _ block)
 
   -- the stream that the calls give
   abbrev begun : Stream
@@ -44,4 +47,4 @@ module _ (n : ℕ) (key : List ℕ) (legal : isLength n (length key) ≡ true) (
   unfolding enciphered deciphered schedule
   whole-way cs =
       written-is (setUp n key .schedule) d first start-accepts cs
-      ∙ ap (λ (s : Schedule). answer (enciphered s) (deciphered s) d first (acceptedBytes begun cs)) made
+      ∙ ap (λ (s : Schedule). answer (enciphered s) (deciphered s) d first (acceptedBytes begun cs)) (made n key legal)

@@ -1,25 +1,8 @@
 // 01's edge cases for every cipher, run and shown: a line for each call, with its answer and the bytes of its output afterwards.
-use libc::STDOUT_FILENO;
+use edge_words::line;
+use edge_words::number;
+use edge_words::say;
 use stream::Stream;
-
-fn say(words: &[u8]) {
-    io::write_all(STDOUT_FILENO, words);
-}
-
-fn number(words: &[u8], n: u64) {
-    say(words);
-    io::print_decimal(STDOUT_FILENO, n);
-}
-
-fn bytes(words: &[u8], all: &[u8]) {
-    say(words);
-    let mut i: usize = 0;
-    while i < all.len() {
-        io::print_hex(STDOUT_FILENO, all[i] as u64, 2);
-        i += 1;
-    }
-    say(b"\n");
-}
 
 // A key of that length, and a block under what it gives.
 fn key_of(cipher: u64, key: &[u8]) {
@@ -29,7 +12,7 @@ fn key_of(cipher: u64, key: &[u8]) {
     number(b"  a key of ", key.len() as u64);
     number(b" bytes: answer ", made.answer as u64);
     number(b"; a block under it: answer ", answer as u64);
-    bytes(b", output ", &out);
+    line(b", output ", &out);
 }
 
 fn keys(cipher: u64) {
@@ -46,7 +29,7 @@ fn keys(cipher: u64) {
 fn fed(call: &[u8], answer: u8, written: u64, out: &[u8]) {
     number(call, answer as u64);
     number(b", writes ", written);
-    bytes(b", output ", out);
+    line(b", output ", out);
 }
 
 // A piece into 16 bytes of room, and the next stream.
@@ -106,7 +89,7 @@ fn million() -> [u8; 1048576] {
 fn last_block(words: &[u8], all: &[u8]) {
     if 16 <= all.len() {
         let from = all.len() - 16;
-        bytes(words, &all[from..]);
+        line(words, &all[from..]);
     }
 }
 

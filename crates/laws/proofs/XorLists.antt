@@ -3,11 +3,11 @@ use mathlib.Core.Path.{_≡_, sym, ap, _∙_}
 use mathlib.Core.List.{List, _∷_}
 use Prim.Native.Nat.{ℕ, suc, _<_}
 use lib.ListN.{length, getD, replicate, getD-replicate}
-use lib.Bits.{bitXor, xor-lt}
+use lib.Bits.{bitXor, xor-comm, xor-lt}
 use Rattle.laws.specs.Places.{Each}
 use Rattle.laws.specs.Bytes.{Word, Bytes, xorL}
 use Rattle.laws.proofs.Xor.{xor-cancel-r}
-use Rattle.laws.proofs.Places.{length-tab, getD-tab, tab-is, tabFrom-suc, each-tab}
+use Rattle.laws.proofs.Places.{length-tab, getD-tab, tab-is, tab-equal, tabFrom-suc, each-tab}
 
 abbrev pub zeroList : ℕ → List ℕ
 zeroList n = replicate n 0
@@ -27,6 +27,9 @@ xorL-words w n a b h l =
 
 pub xorL-bytes : (n : ℕ) (a b : List ℕ) → Bytes n a → Bytes n b → Bytes n (xorL n a b)
 xorL-bytes = xorL-words 8
+
+pub xorL-comm : (n : ℕ) (a b : List ℕ) → xorL n a b ≡ xorL n b a
+xorL-comm n a b = tab-equal n _ _ 0 (λ j h. xor-comm (getD a j 0) (getD b j 0))
 
 pub xorL-cancel-r : (n : ℕ) (a b : List ℕ) → length a ≡ n → xorL n (xorL n a b) b ≡ a
 xorL-cancel-r n a b e =

@@ -7,6 +7,10 @@ use lib.ListN.{length, replicate}
 abbrev pub limit : ℕ
 limit = 1048576
 
--- fifteen places: these bytes, and zeros
+-- n places: these bytes, and zeros
+abbrev pub heldIn : ℕ → List ℕ → List ℕ
+heldIn n l = l ++ replicate (n - length l) 0
+
+-- the places of a stream
 abbrev pub held15 : List ℕ → List ℕ
-held15 l = l ++ replicate (15 - length l) 0
+held15 = heldIn 15

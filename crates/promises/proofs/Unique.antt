@@ -15,9 +15,17 @@ use Rattle.stream.specs.declared.Stream.{Stream}
 use Rattle.stream.specs.declared.Started.{Started}
 use Rattle.stream.specs.declared.Fed.{Fed}
 use Rattle.stream.specs.declared.Finished.{Finished}
+use Rattle.seal.specs.Promises.{StartsSeal, FeedsSeal, WritesSeal, ChecksSeal}
+use Rattle.seal.specs.declared.Seal.{Seal}
+use Rattle.seal.specs.declared.Started as seal-started
+use Rattle.seal.specs.declared.Fed as seal-fed
+use Rattle.seal.specs.declared.Written.{Written}
+use Rattle.seal.specs.declared.Checked.{Checked}
 use Rattle.entry.specs.Entry.{WorksForC, TellsVersion}
 use Rattle.speed.specs.Works.{Result, WorksBlocks, WorksMessage, WorksBytes}
 use Rattle.card_speed.specs.Works.{MeasuresGood, MeasuresFind}
+use Rattle.seal_speed.specs.Works.{SealsMessage, SealsBytes}
+use Rattle.seal_speed.specs.Works as seal-works
 
 pub one-set-up : (n : ℕ) (key : List ℕ) (r r′ : SetUp) → SetsUp n key r → SetsUp n key r′ → r ≡ r′
 one-set-up n key r r′ h h′ = h .returned ∙ sym (h′ .returned)
@@ -45,6 +53,19 @@ one-version r r′ h h′ = h .returned ∙ sym (h′ .returned)
 
 pub one-reading : (text o : List ℕ) (r r′ : Reading) (q q′ : List ℕ) → Read text o r q → Read text o r′ q′ → (r ≡ r′) × (q ≡ q′)
 one-reading text o r r′ q q′ h h′ = (h .answers ∙ sym (h′ .answers), h .writes ∙ sym (h′ .writes))
+
+-- ---- seals
+pub one-seal-start : (s : Schedule) (r r′ : seal-started.Started) → StartsSeal s r → StartsSeal s r′ → r ≡ r′
+one-seal-start s r r′ h h′ = h .returned ∙ sym (h′ .returned)
+
+pub one-seal-piece : (s : Seal) (p : List ℕ) (r r′ : seal-fed.Fed) → FeedsSeal s p r → FeedsSeal s p r′ → r ≡ r′
+one-seal-piece s p r r′ h h′ = h .returned ∙ sym (h′ .returned)
+
+pub one-seal-written : (s : Seal) (o : List ℕ) (r r′ : Written) (q q′ : List ℕ) → WritesSeal s o r q → WritesSeal s o r′ q′ → (r ≡ r′) × (q ≡ q′)
+one-seal-written s o r r′ q q′ h h′ = (h .returned ∙ sym (h′ .returned), h .left ∙ sym (h′ .left))
+
+pub one-seal-check : (s : Seal) (g : List ℕ) (r r′ : Checked) → ChecksSeal s g r → ChecksSeal s g r′ → r ≡ r′
+one-seal-check s g r r′ h h′ = h .returned ∙ sym (h′ .returned)
 
 -- ---- cards
 pub one-judgement : (card : List ℕ) (r r′ : Bool) → Judges card r → Judges card r′ → r ≡ r′
@@ -81,3 +102,15 @@ one-good-measured card r r′ h h′ = h .answered ∙ sym (h′ .answered)
 
 pub one-find-measured : (card : List ℕ) (recipe segment r r′ : ℕ) → MeasuresFind card recipe segment r → MeasuresFind card recipe segment r′ → r ≡ r′
 one-find-measured card recipe segment r r′ h h′ = h .answered ∙ sym (h′ .answered)
+
+pub one-seal-measured : (c : ℕ) (key x o : List ℕ) (r r′ : ℕ) (q q′ : List ℕ)
+    → SealsMessage c key x o r q → SealsMessage c key x o r′ q′ → (r ≡ r′) × (q ≡ q′)
+one-seal-measured c key x o r r′ q q′ h h′ =
+    let e = h .worked ∙ sym (h′ .worked) in
+    (ap (λ (x : seal-works.Result). x .answer) e, ap (λ (x : seal-works.Result). x .out) e)
+
+pub one-seal-by-bytes-measured : (c : ℕ) (key x o : List ℕ) (r r′ : ℕ) (q q′ : List ℕ)
+    → SealsBytes c key x o r q → SealsBytes c key x o r′ q′ → (r ≡ r′) × (q ≡ q′)
+one-seal-by-bytes-measured c key x o r r′ q q′ h h′ =
+    let e = h .worked ∙ sym (h′ .worked) in
+    (ap (λ (x : seal-works.Result). x .answer) e, ap (λ (x : seal-works.Result). x .out) e)

@@ -2,6 +2,7 @@
 use cipher::Schedule;
 use cipher::SetUp;
 use hex::Reading;
+use seal::Seal;
 use stream::Fed;
 use stream::Finished;
 use stream::Started;
@@ -10,9 +11,11 @@ ghost use Rattle.hex.specs.Read.{Read};
 ghost use Rattle.card.specs.Promises.{Judges, Finds, Puts};
 ghost use Rattle.cipher.specs.Promises.{SetsUp, EnciphersBlock, DeciphersBlock};
 ghost use Rattle.stream.specs.Promises.{Starts, Feeds, Finishes};
+ghost use Rattle.seal.specs.Promises.{StartsSeal, FeedsSeal, WritesSeal, ChecksSeal};
 ghost use Rattle.entry.specs.Entry.{WorksForC, TellsVersion};
 ghost use Rattle.speed.specs.Works.{WorksBlocks, WorksMessage, WorksBytes};
 ghost use Rattle.card_speed.specs.Works.{MeasuresGood, MeasuresFind};
+ghost use Rattle.seal_speed.specs.Works.{SealsMessage, SealsBytes};
 
 pub fn set_up(cipher: u64, key: &[u8]) -> SetUp
     ensures { λ r. ⌜ SetsUp cipher (now (key .entry)) r ⌝ }
@@ -54,6 +57,30 @@ pub fn block_for_c(cipher: u64, direction: u64, key: &[u8], input: &[u8], output
     ensures { λ r. ⌜ WorksForC cipher direction (now (key .entry)) (now (input .entry)) (now (output .entry)) r (now (output .exit)) ⌝ }
 {
     entry::tlilcueyoh_block(cipher, direction, key, input, output)
+}
+
+pub fn start_seal(schedule: Schedule) -> seal::Started
+    ensures { λ r. ⌜ StartsSeal schedule r ⌝ }
+{
+    Seal::start(schedule)
+}
+
+pub fn feed_seal(seal: Seal, piece: &[u8]) -> seal::Fed
+    ensures { λ r. ⌜ FeedsSeal seal (now (piece .entry)) r ⌝ }
+{
+    seal.feed(piece)
+}
+
+pub fn write_seal(seal: Seal, out: &mut [u8]) -> seal::Written
+    ensures { λ r. ⌜ WritesSeal seal (now (out .entry)) r (now (out .exit)) ⌝ }
+{
+    seal.write(out)
+}
+
+pub fn check_seal(seal: Seal, given: &[u8]) -> seal::Checked
+    ensures { λ r. ⌜ ChecksSeal seal (now (given .entry)) r ⌝ }
+{
+    seal.check(given)
 }
 
 pub fn version_for_c() -> u64
@@ -134,4 +161,16 @@ pub fn find_measured(card: &[u8], recipe: u64, segment: u64) -> u64
     ensures { λ r. ⌜ MeasuresFind (now (card .entry)) recipe segment r ⌝ }
 {
     card_speed::tlilcueyoh_speed_find(card, recipe, segment)
+}
+
+pub fn seal_measured(cipher: u64, key: &[u8], input: &[u8], output: &mut [u8]) -> u64
+    ensures { λ r. ⌜ SealsMessage cipher (now (key .entry)) (now (input .entry)) (now (output .entry)) r (now (output .exit)) ⌝ }
+{
+    seal_speed::tlilcueyoh_speed_seal(cipher, key, input, output)
+}
+
+pub fn seal_by_bytes_measured(cipher: u64, key: &[u8], input: &[u8], output: &mut [u8]) -> u64
+    ensures { λ r. ⌜ SealsBytes cipher (now (key .entry)) (now (input .entry)) (now (output .entry)) r (now (output .exit)) ⌝ }
+{
+    seal_speed::tlilcueyoh_speed_seal_bytes(cipher, key, input, output)
 }

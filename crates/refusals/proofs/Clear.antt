@@ -46,3 +46,15 @@ entry-clear c l d b r = clear ((c, refusal.unknownCipher) ∷ (l, refusal.keyLen
 
 pub put-clear : (c r s : Bool) → refusal.putOrder c r s ≡ refusal.done → Clear (c ∷ r ∷ s ∷ [])
 put-clear c r s = clear ((c, refusal.badCard) ∷ (r, refusal.badRecord) ∷ (s, refusal.noSlot) ∷ []) (refl, (refl, (refl, tt)))
+
+pub seal-start-clear : (s : Bool) → refusal.sealStartOrder s ≡ refusal.done → Clear (s ∷ [])
+seal-start-clear s = clear ((s, refusal.badSchedule) ∷ []) (refl, tt)
+
+pub seal-piece-clear : (s e l : Bool) → refusal.sealPieceOrder s e l ≡ refusal.done → Clear (s ∷ e ∷ l ∷ [])
+seal-piece-clear s e l = clear ((s, refusal.badState) ∷ (e, refusal.closed) ∷ (l, refusal.overLimit) ∷ []) (refl, (refl, (refl, tt)))
+
+pub seal-write-clear : (s e r : Bool) → refusal.sealWriteOrder s e r ≡ refusal.done → Clear (s ∷ e ∷ r ∷ [])
+seal-write-clear s e r = clear ((s, refusal.badState) ∷ (e, refusal.closed) ∷ (r, refusal.noRoom) ∷ []) (refl, (refl, (refl, tt)))
+
+pub seal-check-clear : (s e : Bool) → refusal.sealCheckOrder s e ≡ refusal.done → Clear (s ∷ e ∷ [])
+seal-check-clear s e = clear ((s, refusal.badState) ∷ (e, refusal.closed) ∷ []) (refl, (refl, tt))

@@ -1,4 +1,4 @@
--- The refusals: 01, 'Refusal numbers', and 02, request 1. Their numbers, and the order of each call, in which the first that applies is given; 0 is done.
+-- The refusals: 01, 'Refusal numbers', and 02, requests 1 and 3. Their numbers, and the order of each call, in which the first that applies is given; 0 is done.
 use mathlib.Core.Bool.{Bool}
 use mathlib.Core.List.{List, [], _∷_}
 use Prim.Native.Nat.{ℕ}
@@ -76,3 +76,15 @@ entryOrder c l d b r = first ((c, unknownCipher) ∷ (l, keyLength) ∷ (d, dire
 
 abbrev pub putOrder : (card «record» slot : Bool) → ℕ
 putOrder c r s = first ((c, badCard) ∷ (r, badRecord) ∷ (s, noSlot) ∷ [])
+
+abbrev pub sealStartOrder : (schedule : Bool) → ℕ
+sealStartOrder s = first ((s, badSchedule) ∷ [])
+
+abbrev pub sealPieceOrder : (state ended limit : Bool) → ℕ
+sealPieceOrder s e l = first ((s, badState) ∷ (e, closed) ∷ (l, overLimit) ∷ [])
+
+abbrev pub sealWriteOrder : (state ended room : Bool) → ℕ
+sealWriteOrder s e r = first ((s, badState) ∷ (e, closed) ∷ (r, noRoom) ∷ [])
+
+abbrev pub sealCheckOrder : (state ended : Bool) → ℕ
+sealCheckOrder s e = first ((s, badState) ∷ (e, closed) ∷ [])

@@ -4,6 +4,10 @@ pub mod entry;
 pub mod finish;
 pub mod piece;
 pub mod put;
+pub mod seal_check;
+pub mod seal_piece;
+pub mod seal_start;
+pub mod seal_write;
 pub mod set_up;
 pub mod start;
 

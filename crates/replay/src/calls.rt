@@ -1,113 +1,11 @@
-// The calls of a script, by number.
+// The calls of a script, by number, and what is kept behind each.
 use crate::Kept;
 use crate::Turn;
-use crate::records;
+use crate::stream_calls;
 use script::reading;
 use script::writing;
-use stream::Stream;
 
-// The script ends here: a call is unknown, too long or cut off.
-fn broken(kept: Kept) -> Turn {
-    Turn { on: false, kept }
-}
-
-fn set_up(kept: Kept) -> Turn {
-    let mut key = [0u8; 8192];
-    let cipher = reading::eight();
-    let k = reading::string(&mut key);
-    let n = k.len;
-    if !(cipher.ok & k.ok) {
-        return broken(kept);
-    }
-    let made = cipher::set_up(cipher.value, &key[..n]);
-    writing::byte(made.answer);
-    records::write_schedule(made.schedule);
-    let schedule = made.schedule;
-    let stream = kept.stream;
-    Turn {
-        on: true,
-        kept: Kept { schedule, stream },
-    }
-}
-
-// One block, enciphered or deciphered.
-fn one_block(back: bool, kept: Kept) -> Turn {
-    let mut block = [0u8; 8192];
-    let mut out = [0u8; 8192];
-    let b = reading::string(&mut block);
-    let o = reading::buffer(&mut out);
-    let n = b.len;
-    let room = o.len;
-    if !(b.ok & o.ok) {
-        return broken(kept);
-    }
-    let answer = if back {
-        cipher::decipher_block(kept.schedule, &block[..n], &mut out[..room])
-    } else {
-        cipher::encipher_block(kept.schedule, &block[..n], &mut out[..room])
-    };
-    writing::byte(answer);
-    writing::front(&out, room);
-    Turn { on: true, kept }
-}
-
-fn start(kept: Kept) -> Turn {
-    let mut first = [0u8; 8192];
-    let direction = reading::eight();
-    let f = reading::string(&mut first);
-    let n = f.len;
-    if !(direction.ok & f.ok) {
-        return broken(kept);
-    }
-    let begun = Stream::start(kept.schedule, direction.value, &first[..n]);
-    writing::byte(begun.answer);
-    records::write_stream(begun.stream);
-    let schedule = kept.schedule;
-    let stream = begun.stream;
-    Turn {
-        on: true,
-        kept: Kept { schedule, stream },
-    }
-}
-
-fn piece(kept: Kept) -> Turn {
-    let mut bytes = [0u8; 8192];
-    let mut out = [0u8; 8192];
-    let p = reading::string(&mut bytes);
-    let o = reading::buffer(&mut out);
-    let n = p.len;
-    let room = o.len;
-    if !(p.ok & o.ok) {
-        return broken(kept);
-    }
-    let old = kept.stream;
-    let fed = old.feed(&bytes[..n], &mut out[..room]);
-    writing::byte(fed.answer);
-    writing::eight(fed.written);
-    writing::front(&out, room);
-    records::write_stream(fed.next);
-    let schedule = kept.schedule;
-    let stream = fed.next;
-    Turn {
-        on: true,
-        kept: Kept { schedule, stream },
-    }
-}
-
-fn finish(kept: Kept) -> Turn {
-    let old = kept.stream;
-    let done = old.finish();
-    writing::byte(done.answer);
-    records::write_stream(done.next);
-    let schedule = kept.schedule;
-    let stream = done.next;
-    Turn {
-        on: true,
-        kept: Kept { schedule, stream },
-    }
-}
-
-fn c_entry(kept: Kept) -> Turn {
+fn c_entry() -> bool {
     let mut key = [0u8; 8192];
     let mut block = [0u8; 8192];
     let mut out = [0u8; 8192];
@@ -120,7 +18,7 @@ fn c_entry(kept: Kept) -> Turn {
     let m = b.len;
     let room = o.len;
     if !(cipher.ok & direction.ok & k.ok & b.ok & o.ok) {
-        return broken(kept);
+        return false;
     }
     let answer = entry::tlilcueyoh_block(
         cipher.value,
@@ -131,49 +29,64 @@ fn c_entry(kept: Kept) -> Turn {
     );
     writing::byte((answer % 256) as u8);
     writing::front(&out, room);
-    Turn { on: true, kept }
+    true
 }
 
-fn keep_schedule(kept: Kept) -> Turn {
-    let r = records::read_schedule();
-    let schedule = r.schedule;
-    let stream = kept.stream;
-    Turn {
-        on: r.ok,
-        kept: Kept { schedule, stream },
-    }
-}
-
-fn keep_stream(kept: Kept) -> Turn {
-    let r = records::read_stream();
-    let schedule = kept.schedule;
-    let stream = r.stream;
-    Turn {
-        on: r.ok,
-        kept: Kept { schedule, stream },
-    }
-}
-
-// A call on a card leaves what is kept.
-fn on_card(on: bool, kept: Kept) -> Turn {
+// A call that leaves all that is kept; where it isn't on, the script ends: a call is unknown, too long or cut off.
+fn same(on: bool, kept: Kept) -> Turn {
     Turn { on, kept }
+}
+
+fn with_schedule(left: cipher_calls::Left, kept: Kept) -> Turn {
+    let schedule = left.schedule;
+    let mut next = kept;
+    next.schedule = schedule;
+    Turn {
+        on: left.on,
+        kept: next,
+    }
+}
+
+fn with_stream(left: stream_calls::Left, kept: Kept) -> Turn {
+    let stream = left.stream;
+    let mut next = kept;
+    next.stream = stream;
+    Turn {
+        on: left.on,
+        kept: next,
+    }
+}
+
+fn with_seal(left: seal_calls::Left, kept: Kept) -> Turn {
+    let seal = left.seal;
+    let mut next = kept;
+    next.seal = seal;
+    Turn {
+        on: left.on,
+        kept: next,
+    }
 }
 
 // The call of a number.
 pub fn call(code: u64, kept: Kept) -> Turn {
     match code {
-        1 => set_up(kept),
-        2 => one_block(false, kept),
-        3 => one_block(true, kept),
-        4 => start(kept),
-        5 => piece(kept),
-        6 => finish(kept),
-        7 => c_entry(kept),
-        8 => keep_schedule(kept),
-        9 => keep_stream(kept),
-        10 => on_card(card_calls::good(), kept),
-        11 => on_card(card_calls::find(), kept),
-        12 => on_card(card_calls::put(), kept),
-        _ => broken(kept),
+        1 => with_schedule(cipher_calls::set_up(), kept),
+        2 => same(cipher_calls::one_block(false, kept.schedule), kept),
+        3 => same(cipher_calls::one_block(true, kept.schedule), kept),
+        4 => with_stream(stream_calls::start(kept.schedule, kept.stream), kept),
+        5 => with_stream(stream_calls::piece(kept.stream), kept),
+        6 => with_stream(stream_calls::finish(kept.stream), kept),
+        7 => same(c_entry(), kept),
+        8 => with_schedule(cipher_calls::keep(), kept),
+        9 => with_stream(stream_calls::keep(), kept),
+        10 => same(card_calls::good(), kept),
+        11 => same(card_calls::find(), kept),
+        12 => same(card_calls::put(), kept),
+        13 => with_seal(seal_calls::start(kept.schedule), kept),
+        14 => with_seal(seal_calls::piece(kept.seal), kept),
+        15 => with_seal(seal_calls::write(kept.seal), kept),
+        16 => with_seal(seal_calls::check(kept.seal), kept),
+        17 => with_seal(seal_calls::keep(), kept),
+        _ => same(false, kept),
     }
 }

@@ -1,16 +1,18 @@
 // Makes the calls that a script on standard input tells it to, and writes everything that comes back to standard output.
 mod calls;
-mod records;
+mod stream_calls;
 
 use cipher::Schedule;
 use script::reading;
 use script::writing;
+use seal::Seal;
 use stream::Stream;
 
-// The schedule and the stream that are kept from call to call.
+// The schedule, the stream and the seal that are kept from call to call.
 pub struct Kept {
     pub schedule: Schedule,
     pub stream: Stream,
+    pub seal: Seal,
 }
 
 // What a call leaves: whether the script goes on, and what is kept.
@@ -33,7 +35,18 @@ fn nothing_kept() -> Kept {
         held: [0u8; 15],
         closed: false,
     };
-    Kept { schedule, stream }
+    let seal = Seal {
+        schedule: schedule,
+        count: 0,
+        chain: [0u8; 16],
+        held: [0u8; 16],
+        closed: false,
+    };
+    Kept {
+        schedule,
+        stream,
+        seal,
+    }
 }
 
 fn main() {

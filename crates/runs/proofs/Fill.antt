@@ -48,6 +48,10 @@ zeros-are (x ∷ xs) z = first (eqb x 0) refl z (zeros-are xs)
     first true e z rest = λ i. eqb-true x 0 e i ∷ rest z i
     first false e z rest = absurd (true≢false (sym z))
 
+pub zeros-replicate : (n : ℕ) → zeros (replicate n 0) ≡ true
+zeros-replicate zero = refl
+zeros-replicate (suc n) = zeros-replicate n
+
 -- ---- the first i of s, zeros behind, and one more
 pub fill-next : (n : ℕ) (s : List ℕ) (i v : ℕ) → i < n → i < length s → v ≡ getD s i 0
     → set (take i s ++ replicate (n - i) 0) i v ≡ take (i + 1) s ++ replicate (n - (i + 1)) 0

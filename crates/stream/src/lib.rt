@@ -107,8 +107,8 @@ impl Stream {
             let last = blocks::run(next, piece, out, n);
             next.chain = last;
         }
-        let old = next.held;
-        let held = pieces::held::left_over(old, kept, piece, n);
+        let mut held = next.held;
+        pieces::held::left_over(&mut held, kept, piece, n);
         next.held = held;
         next.count += piece.len() as u64;
         fed_as(refusals::DONE, (16 * n) as u64, next)

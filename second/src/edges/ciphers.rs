@@ -2,7 +2,7 @@
 //! Follows document 01, 'Refusal numbers' and 'Marked cases', its last paragraph, and
 //! document 02, request 2, for numbers 3 and 4.
 
-use super::hex;
+use super::{hex, BEFORE};
 use crate::cipher::{encipher_block, set_up, Schedule};
 use crate::stream::{feed, finish, start, Fed, Stream};
 
@@ -10,9 +10,6 @@ const LONGEST_KEY: &[u8; 33] = b"0123456789abcdefghijklmnopqrstuvw";
 const BLOCK: &[u8; 16] = b"sixteen letters.";
 const FIRST: &[u8; 16] = b"the first block.";
 const TEXT: &[u8; 31] = b"the message of thirty-one bytes";
-
-/// What every output holds before the call.
-const BEFORE: u8 = 0xEE;
 
 pub fn ciphers() -> String {
     (1..=4).map(of_cipher).collect()

@@ -2,9 +2,14 @@
 
 mod cards;
 mod ciphers;
+mod seals;
 
 pub use cards::{cards, full, standard};
 pub use ciphers::ciphers;
+pub use seals::seals;
+
+/// What every output holds before the call.
+const BEFORE: u8 = 0xEE;
 
 fn hex(bytes: &[u8]) -> String {
     bytes.iter().map(|byte| format!("{byte:02x}")).collect()

@@ -1,7 +1,7 @@
 //! One call of a script, and the bytes that stand for it there.
 //! Follows the page on replay, its tables.
 
-use super::record::{SCHEDULE_BYTES, STREAM_BYTES};
+use super::record::{SCHEDULE_BYTES, SEAL_BYTES, STREAM_BYTES};
 
 /// An output buffer before the call: `room` bytes, each of them `filler`.
 #[derive(Clone, Copy, Debug, PartialEq, Eq)]
@@ -61,6 +61,17 @@ pub enum Call {
         card: Vec<u8>,
         record: Vec<u8>,
     },
+    StartSeal,
+    PieceOfSeal {
+        piece: Vec<u8>,
+    },
+    WriteSeal {
+        buffer: Buffer,
+    },
+    CheckSeal {
+        given: Vec<u8>,
+    },
+    KeepSeal(Box<[u8; SEAL_BYTES]>),
 }
 
 impl Call {
@@ -78,6 +89,11 @@ impl Call {
             Call::IsGood { .. } => 0x0A,
             Call::Find { .. } => 0x0B,
             Call::Put { .. } => 0x0C,
+            Call::StartSeal => 0x0D,
+            Call::PieceOfSeal { .. } => 0x0E,
+            Call::WriteSeal { .. } => 0x0F,
+            Call::CheckSeal { .. } => 0x10,
+            Call::KeepSeal(_) => 0x11,
         }
     }
 
@@ -113,6 +129,11 @@ impl Call {
                 segment,
             } => vec![string(card), eight(*recipe), eight(*segment)],
             Call::Put { card, record } => vec![string(card), string(record)],
+            Call::StartSeal => vec![],
+            Call::PieceOfSeal { piece } => vec![string(piece)],
+            Call::WriteSeal { buffer } => vec![room(*buffer)],
+            Call::CheckSeal { given } => vec![string(given)],
+            Call::KeepSeal(bytes) => vec![bytes.to_vec()],
         };
         [number, rest.concat()].concat()
     }

@@ -1,9 +1,10 @@
 //! Records with arbitrary round keys, and records that are bad for one cause each.
-//! Follows document 01, 'The two records'.
+//! Follows document 01, 'The two records', and document 02, request 3.
 
 use super::ciphers::Ciphers;
 use crate::cipher::{is_key_length, used, Schedule, ROUND_KEY_BYTES};
 use crate::random::Random;
+use crate::seal::Seal;
 use crate::stream::Stream;
 
 /// A good schedule whose round keys come from no key.
@@ -26,6 +27,23 @@ pub fn any_stream(random: &mut Random, legal: &[(u8, u8)], count: u64) -> Stream
         stream.held[place] = random.mark();
     }
     stream
+}
+
+/// A good open seal state that perhaps no message led to.
+pub fn any_seal(random: &mut Random, legal: &[(u8, u8)], count: u64) -> Seal {
+    let (cipher, key_length) = random.one_of(legal);
+    let mut seal = Seal {
+        schedule: any_schedule(random, cipher, key_length),
+        count,
+        ..Seal::ZERO
+    };
+    if count > 16 {
+        seal.chain = random.array();
+    }
+    for place in 0..seal.held_number() {
+        seal.held[place] = random.mark();
+    }
+    seal
 }
 
 pub fn bad_schedules(random: &mut Random, ciphers: &Ciphers) -> Vec<Schedule> {

@@ -3,10 +3,12 @@
 
 use super::call::{string, Call};
 use super::reader::Reader;
-use super::record::{schedule_bytes, schedule_from, stream_bytes, stream_from};
+use super::record::{schedule_bytes, schedule_from, seal_bytes, seal_from};
+use super::record::{stream_bytes, stream_from};
 use crate::card::{find, good, put, Put};
 use crate::cipher::{decipher_block, encipher_block, set_up, OneBlock, Schedule};
 use crate::entry::entry;
+use crate::seal::{self, Seal};
 use crate::stream::{feed, finish, start, Next, Stream};
 
 const BROKEN: u8 = 0xFF;
@@ -28,16 +30,18 @@ pub fn run(script: &[u8]) -> Vec<u8> {
     answers
 }
 
-/// The one schedule and the one stream that a script works with.
+/// The one schedule, the one stream and the one seal state that a script works with.
 pub struct Kept {
     schedule: Schedule,
     stream: Stream,
+    seal: Seal,
 }
 
 impl Kept {
     pub const ZERO: Kept = Kept {
         schedule: Schedule::ZERO,
         stream: Stream::ZERO,
+        seal: Seal::ZERO,
     };
 
     /// Makes the call and gives what is written for it.
@@ -75,6 +79,14 @@ impl Kept {
                 segment,
             } => string(find(&card, recipe, segment)),
             Call::Put { card, record } => put_card(put(&card, &record)),
+            Call::StartSeal => self.next_seal(seal::start(&self.schedule)),
+            Call::PieceOfSeal { piece } => self.next_seal(seal::feed(&self.seal, &piece)),
+            Call::WriteSeal { buffer } => self.write_seal(&buffer.bytes()),
+            Call::CheckSeal { given } => self.check_seal(&given),
+            Call::KeepSeal(bytes) => {
+                self.seal = seal_from(&bytes);
+                Vec::new()
+            }
         }
     }
 
@@ -97,6 +109,26 @@ impl Kept {
         let written = back.written.to_be_bytes();
         let stream = stream_bytes(&self.stream);
         [&[back.answer.number()], &written[..], &back.out, &stream].concat()
+    }
+
+    fn next_seal(&mut self, back: seal::Next) -> Vec<u8> {
+        self.seal = back.seal;
+        let seal = seal_bytes(&self.seal);
+        [&[back.answer.number()], &seal[..]].concat()
+    }
+
+    fn write_seal(&mut self, out: &[u8]) -> Vec<u8> {
+        let back = seal::write(&self.seal, out);
+        self.seal = back.seal;
+        let seal = seal_bytes(&self.seal);
+        [&[back.answer.number()], &back.out[..], &seal].concat()
+    }
+
+    fn check_seal(&mut self, given: &[u8]) -> Vec<u8> {
+        let back = seal::check(&self.seal, given);
+        self.seal = back.seal;
+        let seal = seal_bytes(&self.seal);
+        [&[back.answer.number(), u8::from(back.yes)], &seal[..]].concat()
     }
 }
 

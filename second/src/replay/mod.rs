@@ -13,6 +13,7 @@ pub mod interpreter;
 pub mod reader;
 pub mod record;
 pub mod script;
+mod seals;
 mod states;
 mod streams;
 pub mod vectors;
@@ -20,7 +21,7 @@ pub mod vectors;
 pub use interpreter::run;
 
 /// How much of the script is wanted: behind the blocks part stand streams, then cards,
-/// then request 2's.
+/// then request 2's, then seals.
 #[derive(Clone, Copy, Debug, PartialEq, Eq)]
 pub enum Extent {
     Blocks,
@@ -35,6 +36,7 @@ pub fn script(extent: Extent) -> Vec<u8> {
         streams::write(&mut script);
         cards::write(&mut script);
         designers::write(&mut script);
+        seals::write(&mut script);
     }
     script.bytes
 }

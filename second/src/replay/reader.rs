@@ -54,6 +54,17 @@ impl<'a> Reader<'a> {
                 card: self.string()?,
                 record: self.string()?,
             },
+            0x0D => Call::StartSeal,
+            0x0E => Call::PieceOfSeal {
+                piece: self.string()?,
+            },
+            0x0F => Call::WriteSeal {
+                buffer: self.buffer()?,
+            },
+            0x10 => Call::CheckSeal {
+                given: self.string()?,
+            },
+            0x11 => Call::KeepSeal(Box::new(self.array()?)),
             _ => return None,
         })
     }

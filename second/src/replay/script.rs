@@ -2,8 +2,9 @@
 //! Follows document 01 for what is legal and what stands next to it.
 
 use super::call::{Buffer, Call};
-use super::record::{schedule_bytes, stream_bytes};
+use super::record::{schedule_bytes, seal_bytes, stream_bytes};
 use crate::cipher::Schedule;
+use crate::seal::Seal;
 use crate::stream::Stream;
 
 /// Directions: the legal ones, others, and those that merely end in a legal one.
@@ -94,6 +95,28 @@ impl Script {
         let card = card.to_vec();
         let record = record.to_vec();
         self.call(Call::Put { card, record });
+    }
+
+    pub fn start_seal(&mut self) {
+        self.call(Call::StartSeal);
+    }
+
+    pub fn piece_of_seal(&mut self, piece: &[u8]) {
+        let piece = piece.to_vec();
+        self.call(Call::PieceOfSeal { piece });
+    }
+
+    pub fn write_seal(&mut self, buffer: Buffer) {
+        self.call(Call::WriteSeal { buffer });
+    }
+
+    pub fn check_seal(&mut self, given: &[u8]) {
+        let given = given.to_vec();
+        self.call(Call::CheckSeal { given });
+    }
+
+    pub fn keep_seal(&mut self, seal: &Seal) {
+        self.call(Call::KeepSeal(Box::new(seal_bytes(seal))));
     }
 }
 

@@ -1,5 +1,5 @@
 use mathlib.Core.Logic.{inl, inr}
-use mathlib.Core.Path.{_≡_, refl, sym, ap, _∙_}
+use mathlib.Core.Path.{_≡_, refl, sym, ap, ap₂, _∙_}
 use mathlib.Core.List.{List, _++_}
 use Prim.Native.Nat.{ℕ, _+_, _*_, _%_, _/_}
 use native.Mathlib.Omega.{arith}
@@ -11,7 +11,7 @@ use Rattle.cbc.specs.Cbc.{Chained}
 use Rattle.cbc.proofs.Loop.{running-start, running-end}
 use Rattle.cipher.specs.Schedule.{enciphered, deciphered}
 use Rattle.cipher.proofs.Answers.{good-length}
-use Rattle.pieces.specs.Pieces.{held15}
+use Rattle.pieces.specs.Pieces.{heldIn}
 use Rattle.stream.specs.State.{streamOf, atHand}
 use Rattle.stream.specs.Calls.{pieceRefusal, fedAs}
 use Rattle.stream.specs.declared.Stream.{Stream}
@@ -59,6 +59,16 @@ past c =
       | inr w ↦ record { last = self (c .before) .chain; next-is = w .2; ran = ran-none (self (c .before)) (piece (c .before)) (output (c .before)) _ _ (omega arith) (w .1) }
     ]
 
+-- the held bytes stand, whichever way it came
+held-is : (c : tie.Joined2) → c .if2 .next .held ≡ self (c .before) .held
+held-is c = ap (λ (s : Stream). s .held) (past c .next-is)
+
+held-15 : (c : tie.Start) → length (c .args .self .held) ≡ 15
+held-15 c = search needs
+
+long : (c : tie.Joined2) → length (c .if2 .next .held) ≡ 15
+long c = ap length (held-is c) ∙ held-15 (c .before .before .before .before .before .before .before .before)
+
 is-bad-requires : tie.Need-is-bad-requires
 is-bad-requires c κs = search needs
 
@@ -86,16 +96,19 @@ run-requires c κs =
     let f = k .fits in
     (good-length _ (good _ (k .state) .schedule), some .if2 .taken, omega arith, omega arith)
 
+slice-aggregate-left-over : tie.Need-slice-aggregate-left-over
+slice-aggregate-left-over c = sym (long (c .before .before))
+
 left-over-requires : tie.Need-left-over-requires
 left-over-requires c κs =
-    let joined = c .before in
-    let k = accepted (joined .before) in
-    let n = ap (λ (s : Stream). zeros (drop (self (joined .before) .count % 16) (s .held))) (past joined .next-is) in
-    (omega arith, n ∙ good _ (k .state) .held, omega arith, omega arith)
+    let joined = c .before .before in
+    let l = long joined in
+    let zero = ap (λ (h : List ℕ). zeros (drop (self (joined .before) .count % 16) h)) (held-is joined) in
+    (omega arith, omega arith, zero ∙ good _ (accepted (joined .before) .state) .held, omega arith, omega arith)
 
 add-next : tie.Need-add-next
 add-next c =
-    let joined = c .before .before in
+    let joined = c .before .before .before .before in
     let k = accepted (joined .before) .within in
     let n : joined .if2 .next .count ≡ self (joined .before) .count = ap (λ (s : Stream). s .count) (past joined .next-is) in
     omega arith
@@ -108,20 +121,21 @@ fed-as-requires-2 c κs = search needs
 
 same-length : tie.Need-same-length
 same-length c =
-    elim (c .before .before .before .if2 .came) [ inl w ↦ ap length (w .5) ∙ w .2 .kept .1 .1 .0 | inr w ↦ ap length (w .1) ]
+    elim (c .before .before .before .before .before .if2 .came) [ inl w ↦ ap length (w .5) ∙ w .2 .kept .1 .1 .0 | inr w ↦ ap length (w .1) ]
 
 returns-2 : tie.Need-returns-2
 returns-2 c =
-    let rest = c .before in
-    let joined = rest .before .before in
+    let rest = c .before .before in
+    let joined = rest .before .before .before in
     let a = joined .before .before .before .before .before .before .before .before .args in
     let s = a .self in
     let p = a .piece .now in
     let n = (s .count % 16 + length p) / 16 in
     let z = done (joined .before) in
     let b = past joined in
-    let held = rest .left-over .ensures ∙ ap (λ (x : Stream). held15 (drop (16 * n) (take (s .count % 16) (x .held) ++ p))) (b .next-is) in
-    let next = ap (λ (x : Stream). fedAs refusal.done (16 * n) (streamOf (x .schedule) (x .direction) (x .count + length p) (x .chain) (rest .left-over .result) (x .closed))) (b .next-is) in
+    let held = rest .left-over .ensures
+    ∙ ap₂ (λ (k : ℕ) (h : List ℕ). heldIn k (drop (16 * n) (take (s .count % 16) h ++ p))) (long joined) (held-is joined) in
+    let next = ap (λ (x : Stream). fedAs refusal.done (16 * n) (streamOf (x .schedule) (x .direction) (x .count + length p) (x .chain) (rest .left-over .last .0) (x .closed))) (b .next-is) in
     record {
       returned = c .fed-as2 .ensures ∙ next ∙ piece-fed s p (a .out .now) n z (omega arith) _ _ _ (b .ran) held;
       left = piece-put s p (a .out .now) n z (omega arith) _ _ (b .ran);
@@ -137,6 +151,7 @@ feed-spec =
     returns
     add-n
     run-requires
+    slice-aggregate-left-over
     left-over-requires
     add-next
     mul-fed-as

@@ -1,14 +1,13 @@
-use mathlib.Core.Path.{_≡_, ap₂, _∙_, subst}
+use mathlib.Core.Path.{_≡_, ap, _∙_, subst}
 use mathlib.Core.List.{List, _++_}
 use Prim.Native.Nat.{ℕ, _-_, _%_}
 use native.Mathlib.Omega.{arith}
 use borrow.Author.Needs.{needs}
-use lib.ListN.{length, take, drop, length-drop}
-use lib.Seq.{take-all}
+use lib.ListN.{length, take, drop}
 use Rattle.cbc.specs.Cbc.{Chained}
 use Rattle.cipher.specs.Schedule.{enciphered, deciphered}
 use Rattle.stream.specs.declared.Stream.{Stream}
-use Rattle.pieces.proofs.Hand.{hand-split}
+use Rattle.pieces.proofs.Hand.{hand-parts}
 use Rattle.stream.proofs.blocks.run.Statement.{statement}
 use Rattle.stream.proofs.blocks.run.Tie as tie
 
@@ -68,10 +67,7 @@ returns c =
     let l = held-15 start in
     let k = a .t1 .count % 16 in
     let p = a .piece .now in
-    let tail : take (length p - (16 - k)) (drop (16 - k) p) ≡ drop (16 - k) p =
-    let d = length-drop (16 - k) p in take-all (length p - (16 - k)) (drop (16 - k) p) (omega arith) in
-    let message =
-    ap₂ (λ (x y : List ℕ). x ++ y) (first .first-block .ensures) tail ∙ hand-split (a .t1 .held) p k (omega arith) (omega arith) in
+    let message = ap (λ (x : List ℕ). x ++ take (length p - (16 - k)) (drop (16 - k) p)) (first .first-block .ensures) ∙ hand-parts (a .t1 .held) p k (omega arith) (omega arith) in
     of-message (a .t1) message (ran .run .ensures)
 
 pub run-spec : {M : Type 1} → statement M
