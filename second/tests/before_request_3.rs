@@ -3,10 +3,11 @@
 //! Follows document 02, request 3, and the page on replay.
 
 mod old_parts;
+mod script_calls;
 
 use old_parts::{digest, old_part};
+use script_calls::calls;
 use second::replay::call::Call;
-use second::replay::reader::Reader;
 use second::replay::{run, script, Extent};
 
 /// Length and digest of `replay/script` and of `replay/answers` before request 3.
@@ -46,15 +47,6 @@ fn what_is_written_today_begins_with_them() {
     let script = script(Extent::Whole);
     assert!(script.starts_with(&old_script));
     assert!(run(&old_script) == old_answers);
-}
-
-fn calls(script: &[u8]) -> Vec<Call> {
-    let mut reader = Reader::new(script);
-    let mut calls = Vec::new();
-    while !reader.at_end() {
-        calls.push(reader.call().expect("the script isn't broken"));
-    }
-    calls
 }
 
 #[test]

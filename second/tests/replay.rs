@@ -2,11 +2,13 @@
 //! and what the script of today covers.
 //! Follows the page on replay.
 
+mod script_calls;
+
+use script_calls::calls;
 use second::cipher::{encipher_block, set_up};
 use second::noekeon::{DESIGNERS, EARLIER};
 use second::replay::call::{Buffer, Call};
 use second::replay::interpreter::Kept;
-use second::replay::reader::Reader;
 use second::replay::record::{schedule_bytes, seal_bytes, seal_from, stream_bytes};
 use second::replay::record::{CLOSED, SEAL_CLOSED};
 use second::replay::{run, script, Extent};
@@ -34,15 +36,6 @@ fn the_blocks_part_is_a_prefix_of_both_files() {
     assert!(blocks.len() < whole.len());
     assert!(whole.starts_with(&blocks));
     assert!(run(&whole).starts_with(&run(&blocks)));
-}
-
-fn calls(script: &[u8]) -> Vec<Call> {
-    let mut reader = Reader::new(script);
-    let mut calls = Vec::new();
-    while !reader.at_end() {
-        calls.push(reader.call().expect("the script isn't broken"));
-    }
-    calls
 }
 
 #[test]
