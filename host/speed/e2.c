@@ -1,4 +1,4 @@
-/* E2 in C as one would write it for speed: halves of two words, the odd inverse by the same long power.
+/* E2 in C as one would write it for speed: halves of two words, the odd inverse by the same doubling.
    A yardstick of host/bench; nothing of the product uses it. */
 #include "e2.h"
 
@@ -27,9 +27,9 @@ static void tables(void)
 
 static uint32_t inverse(uint32_t z)
 {
-    uint32_t y = z;
-    for (int i = 0; i < 30; i++)
-        y = y * y * z;
+    uint32_t y = 3 * z ^ 2;
+    for (int right = 4; right < 32; right *= 2)
+        y *= 2 - z * y;
     return y;
 }
 

@@ -1,6 +1,6 @@
 // A block as four words of 32 bits, the left byte the highest, and ⊗ and ⊘ on them (001, 'X ⊗ Y' and 'X ⊘ Y').
 ghost use mathlib.Core.Path.{_≡_};
-ghost use Prim.Native.Nat.{_+_, _*_, _%_, _^_, _≤_};
+ghost use Prim.Native.Nat.{_+_, _-_, _*_, _%_, _^_, _≤_};
 ghost use lib.Bits.{bitOr};
 ghost use lib.ListN.{length};
 ghost use Rattle.laws.specs.Bytes.{xorL};
@@ -62,19 +62,25 @@ fn product(x: u32, y: u32) -> u32
     ((x as u64) * (y as u64) % 4294967296) as u32
 }
 
-// z to the power 2^31 - 1 modulo 2^32, 31 ones in binary: each turn takes one of them in, and squares.
+// y * (2 - z * y): if y is right in the low k bits of z's inverse, this is in the low 2k.
+fn doubled(z: u32, y: u32) -> u32
+    ensures { λ r. ⌜ r ≡ y * (2 + (2 ^ 32 - z * y % 2 ^ 32)) % 2 ^ 32 ⌝ }
+{
+    let minus = 4294967296 - (product(z, y) as u64);
+    product(y, ((2 + minus) % 4294967296) as u32)
+}
+
+// The inverse of z modulo 2^32, by steps that double the number of right low bits. An even z has none: the power that defines it is 0.
 fn inverse(z: u32) -> u32
     ensures { λ r. ⌜ r ≡ inverse z ⌝ }
 {
-    let mut r: u32 = 1;
-    let mut a = z;
-    let mut i: usize = 31;
-    while i > 0 {
-        r = product(r, a);
-        a = product(a, a);
-        i -= 1;
+    if z % 2 == 0 {
+        return 0;
     }
-    r
+    let right4 = product(3, z) ^ 2;
+    let right8 = doubled(z, right4);
+    let right16 = doubled(z, right8);
+    doubled(z, right16)
 }
 
 // One word of X ⊗ Y: that of Y is made odd.

@@ -21,5 +21,6 @@ pub mod Field
 pub mod Power
 pub mod Modular
 pub mod OddInverse
+pub mod Doubling
 pub mod Known
 pub mod Fields

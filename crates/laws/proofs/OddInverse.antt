@@ -1,18 +1,16 @@
--- The inverse of an odd number modulo 2^(k+1): `oddInverse` is one, no other word is, it computes by squaring, and the loop that squares and multiplies gives it.
-use mathlib.Core.Path.{_≡_, refl, sym, ap, ap₂, _∙_, subst}
-use Prim.Native.Nat.{ℕ, zero, suc, _+_, _-_, _*_, _/_, _%_, _^_, _≤_, _<_, zero-le}
-use native.Mathlib.Nat.{mul-comm, mul-assoc, mul-one, one-mul, div-add-mod', mod-lt, mod-mod, pow-zero, pow-suc, pow-succ', zero-lt-suc, mod-eq-of-lt, lt-of-le-of-lt}
+-- The inverse of an odd number modulo 2^(k+1): `oddInverse` is one, no other word is, and it computes by squaring. Of an even number it is 0, from k = 2 on.
+use mathlib.Core.Path.{_≡_, refl, sym, ap, ap₂, _∙_}
+use Prim.Native.Nat.{ℕ, zero, suc, _+_, _-_, _*_, _/_, _%_, _^_, _≤_, _<_}
+use native.Mathlib.Nat.{add-zero, mul-comm, mul-assoc, one-mul, mul-mod-left, div-add-mod', mod-lt, mod-mod, pow-zero, pow-suc, pow-succ', zero-lt-suc}
 use native.Mathlib.Omega.{arith}
-use lib.Arith.{digits-mod, digits-div, dbl-pred}
+use lib.Arith.{digits-mod}
 use lib.Pow.{pow-pos, pow-add, suc-ones, ones-lt}
 use lib.Bits.{bitOr, or-mod}
-use lib.Dec.{lit<}
 use Rattle.laws.specs.Bytes.{Word}
 use Rattle.laws.specs.Modular.{oddInverse}
 use Rattle.laws.specs.Inverse.{Inverse}
 use Rattle.laws.proofs.Xor.{not-digit}
-use Rattle.laws.proofs.Power.{ifOdd}
-use Rattle.laws.proofs.Modular.{mul-mod-l, mul-mod-r, mul-cancel, powMod, powMod-is, pow-double}
+use Rattle.laws.proofs.Modular.{mul-mod-r, mul-cancel, powMod, powMod-is, pow-double}
 
 -- ---- a number made odd
 bit-or-one : (b : ℕ) → b < 2 → bitOr b 1 ≡ 1
@@ -80,51 +78,24 @@ pub odd-inverse-computes : (k z : ℕ) → oddInverse k z ≡ powMod (2 ^ suc k)
 unfolding oddInverse
 odd-inverse-computes k z = sym (powMod-is (2 ^ suc k) k z (2 ^ k - 1) (ones-lt k))
 
--- ---- the loop `r = r * a; a = a * a;`, modulo m, that counts i down from k to 0: its invariant, towards t
-ones-digits : (k : ℕ) → 2 ^ suc k - 1 ≡ (2 ^ k - 1) * 2 + 1
-ones-digits k = ap (λ (n : ℕ). n - 1) (pow-suc 2 k) ∙ dbl-pred (pow-pos k)
-
-powMod-ones : (m k z : ℕ) → powMod m (suc k) z (2 ^ suc k - 1) ≡ z * powMod m k (z * z % m) (2 ^ k - 1) % m
-powMod-ones m k z =
-    ap₂ (λ (b n : ℕ). ifOdd b z * powMod m k (z * z % m) n % m)
-    (ap (λ (n : ℕ). n % 2) (ones-digits k) ∙ digits-mod (2 ^ k - 1) (lit< tt))
-    (ap (λ (n : ℕ). n / 2) (ones-digits k) ∙ digits-div (2 ^ k - 1) (lit< tt))
-
-pub record Inverting (m t i r a : ℕ) : Type 0 where
-  pub is : r * powMod m i a (2 ^ i - 1) % m ≡ t
-  pub small : r < m
-
-pub invert-start : (k z : ℕ) → Inverting (2 ^ suc k) (oddInverse k z) k 1 z
-unfolding oddInverse
-invert-start k z =
-    record {
-      is =
-          ap (λ (n : ℕ). n % 2 ^ suc k) (one-mul (powMod (2 ^ suc k) k z (2 ^ k - 1)) ∙ powMod-is (2 ^ suc k) k z (2 ^ k - 1) (ones-lt k))
-          ∙ mod-mod (z ^ (2 ^ k - 1)) (2 ^ suc k);
-      small = one-lt-pow k;
-    }
+-- ---- of an even number the power leaves nothing
+even-pow : (q n : ℕ) → (q * 2) ^ n ≡ q ^ n * 2 ^ n
+even-pow q zero = pow-zero (q * 2) ∙ sym (ap (λ (x : ℕ). x * 2 ^ 0) (pow-zero q))
+even-pow q (suc n) =
+    pow-suc (q * 2) n ∙ ap (λ (x : ℕ). x * (q * 2)) (even-pow q n) ∙ regroup (q ^ n) (2 ^ n) q
+    ∙ sym (ap₂ (λ (x y : ℕ). x * y) (pow-suc q n) (pow-suc 2 n))
   where
-    one-lt-pow : (j : ℕ) → 1 < 2 ^ suc j
-    one-lt-pow j = subst (λ (n : ℕ). 1 < n) (sym (pow-suc 2 j)) (let h = pow-pos j in omega arith)
+    regroup : (a b c : ℕ) → a * b * (c * 2) ≡ a * c * (b * 2)
+    regroup a b c = omega arith
 
-pub invert-step : {m t i r a s u : ℕ} → Inverting m t i r a → 0 < i → s ≡ r * a % m → u ≡ a * a % m → Inverting m t (i - 1) s u
-invert-step {m} {t} {i} {r} {a} {s} {u} w h d f =
-    let j : ℕ = i - 1 in
-    let p : ℕ = powMod m j (a * a % m) (2 ^ j - 1) in
-    let e : suc j ≡ i = omega arith in
-    record {
-      is =
-          ap₂ (λ (x y : ℕ). x * powMod m j y (2 ^ j - 1) % m) d f
-          ∙ mul-mod-l (r * a) p m ∙ ap (λ (n : ℕ). n % m) (mul-assoc r a p) ∙ sym (mul-mod-r r (a * p) m)
-          ∙ ap (λ (n : ℕ). r * n % m) (sym (powMod-ones m j a))
-          ∙ ap (λ (n : ℕ). r * powMod m n a (2 ^ n - 1) % m) e ∙ w .is;
-      small = subst (λ (n : ℕ). n < m) (sym d) (mod-lt (r * a) (lt-of-le-of-lt zero-le (w .small)));
-    }
-
-pub invert-end : {m t i r a : ℕ} → Inverting m t i r a → i ≤ 0 → r ≡ t
-invert-end {m} {t} {i} {r} {a} w h =
-    let e : 0 ≡ i = omega arith in
-    sym (mul-mod-r r 1 m ∙ ap (λ (n : ℕ). n % m) (mul-one r) ∙ mod-eq-of-lt (w .small))
-    ∙ ap (λ (n : ℕ). r * powMod m n a (2 ^ n - 1) % m) e ∙ w .is
-
-pub ruleset inverts = (invert-start, invert-step, invert-end)
+pub even-inverse : (k z : ℕ) → z % 2 ≡ 0 → suc k ≤ 2 ^ k - 1 → oddInverse k z ≡ 0
+unfolding oddInverse
+even-inverse k z e h =
+    let n : ℕ = 2 ^ k - 1 in
+    let q : ℕ = z / 2 in
+    let zq : z ≡ q * 2 = sym (div-add-mod' z 2) ∙ ap (λ (x : ℕ). q * 2 + x) e ∙ add-zero (q * 2) in
+    let nk : n ≡ n - suc k + suc k = omega arith in
+    ap (λ (x : ℕ). x % 2 ^ suc k)
+    (ap (λ (x : ℕ). x ^ n) zq ∙ even-pow q n ∙ ap (λ (x : ℕ). q ^ n * x) (ap (λ (x : ℕ). 2 ^ x) nk ∙ pow-add 2 (n - suc k) (suc k))
+    ∙ sym (mul-assoc (q ^ n) (2 ^ (n - suc k)) (2 ^ suc k)))
+    ∙ mul-mod-left (q ^ n * 2 ^ (n - suc k)) (2 ^ suc k)
