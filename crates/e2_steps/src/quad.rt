@@ -70,7 +70,7 @@ fn doubled(z: u32, y: u32) -> u32
     product(y, ((2 + minus) % 4294967296) as u32)
 }
 
-// The inverse of z modulo 2^32, by steps that double the number of right low bits. An even z has none: the power that defines it is 0.
+// The inverse of z modulo 2^32, by steps that double the number of right low bits. An even z has none, and the power that defines it is 0 there.
 fn inverse(z: u32) -> u32
     ensures { λ r. ⌜ r ≡ inverse z ⌝ }
 {
