@@ -1,19 +1,23 @@
-//! The command: writes the replay files, interprets a script, checks the files, or
-//! prints edge cases.
+//! The command: writes the replay files, interprets a script, checks the files, prints
+//! edge cases, or cuts the power of a program that interprets scripts.
 //! Follows the page on replay.
 
+use second::cuts::cuts;
 use second::edges;
 use second::replay::{run, script, Extent};
 use std::io::{self, Read, Write};
 use std::path::Path;
-use std::process::ExitCode;
+use std::process::{Command, ExitCode, Stdio};
 
 const USAGE: &str = "usage: second replay DIR [blocks]
        second check DIR [blocks]
        second run < SCRIPT > ANSWERS
        second edges cards
        second edges ciphers
-       second edges seals";
+       second edges seals
+       second edges records
+       second edges cuts
+       second cuts PROGRAM [WORD..]";
 
 fn main() -> ExitCode {
     let arguments: Vec<String> = std::env::args().skip(1).collect();
@@ -27,6 +31,9 @@ fn main() -> ExitCode {
         ["edges", "cards"] => write_out(edges::cards().as_bytes()),
         ["edges", "ciphers"] => write_out(edges::ciphers().as_bytes()),
         ["edges", "seals"] => write_out(edges::seals().as_bytes()),
+        ["edges", "records"] => write_out(edges::records().as_bytes()),
+        ["edges", "cuts"] => write_out(edges::cuts().as_bytes()),
+        ["cuts", program, ref words @ ..] => cut(program, words),
         _ => {
             eprintln!("{USAGE}");
             return ExitCode::from(2);
@@ -80,6 +87,32 @@ fn interpret() -> Result<(), String> {
         .read_to_end(&mut script)
         .map_err(|error| format!("The script can't be read: {error}."))?;
     write_out(&run(&script))
+}
+
+fn cut(program: &str, words: &[&str]) -> Result<(), String> {
+    let line = cuts(&mut |script| answers_of(program, words, script))?;
+    write_out(line.as_bytes())
+}
+
+/// One run of the program from its beginning to its end. A program that ends before it
+/// has read the whole script is seen by its answers.
+fn answers_of(program: &str, words: &[&str], script: &[u8]) -> Result<Vec<u8>, String> {
+    let mut child = Command::new(program)
+        .args(words)
+        .stdin(Stdio::piped())
+        .stdout(Stdio::piped())
+        .spawn()
+        .map_err(|error| format!("{program} can't be run: {error}"))?;
+    let mut input = child.stdin.take().expect("standard input is piped");
+    let output = std::thread::scope(|scope| {
+        scope.spawn(move || input.write_all(script));
+        child.wait_with_output()
+    });
+    let output = output.map_err(|error| format!("{program} can't be waited for: {error}"))?;
+    match output.status.success() {
+        true => Ok(output.stdout),
+        false => Err(format!("{program} ends with {}", output.status)),
+    }
 }
 
 fn write_out(answers: &[u8]) -> Result<(), String> {

@@ -1,5 +1,5 @@
 //! The answer of a call: done, or a refusal with its number and name.
-//! Follows document 01, 'Refusal numbers', and document 02, request 1.
+//! Follows document 01, 'Refusal numbers', and document 02, requests 1 and 5.
 
 #[derive(Clone, Copy, Debug, PartialEq, Eq)]
 #[repr(u8)]
@@ -19,6 +19,8 @@ pub enum Answer {
     BadCard = 12,
     BadRecord = 13,
     NoSlot = 14,
+    BadReading = 15,
+    OtherSchedule = 16,
 }
 
 impl Answer {

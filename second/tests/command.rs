@@ -98,6 +98,8 @@ fn edges_prints_the_edge_cases() {
         ("cards", edges::cards()),
         ("ciphers", edges::ciphers()),
         ("seals", edges::seals()),
+        ("records", edges::records()),
+        ("cuts", edges::cuts()),
     ] {
         let output = second(&["edges", word]);
         assert!(output.status.success());
@@ -124,6 +126,11 @@ fn anything_else_is_answered_with_the_usage() {
         &["edges", "seal"],
         &["edges", "seals", "3"],
         &["replay", "here", "seals"],
+        &["edges", "record"],
+        &["edges", "records", "3"],
+        &["edges", "cuts", "3"],
+        &["replay", "here", "records"],
+        &["cuts"],
         &["help"],
     ] {
         let output = second(arguments);

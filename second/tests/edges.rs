@@ -1,7 +1,8 @@
 //! The edge cases of recipe cards as a person would write them down, those of the
-//! ciphers with every block computed by the C entry and the definition of CBC alone, and
-//! those of seals with every seal computed by the one block call and the steps of CMAC.
-//! Follows document 02, requests 1 to 3, document 01, 'Marked cases', its last paragraph,
+//! ciphers and of records, and the cuts, with every block computed by the C entry and the
+//! definition of CBC alone, and those of seals with every seal computed by the one block
+//! call and the steps of CMAC.
+//! Follows document 02, requests 1 to 3 and 5, document 01, 'Marked cases', its last paragraph,
 //! and the definitions of CBC in NIST SP 800-38A and of CMAC in SP 800-38B.
 
 mod cmac_by_bytes;
@@ -9,7 +10,7 @@ mod cmac_by_bytes;
 use cmac_by_bytes::cmac;
 use second::bytes::{part, xor, Block};
 use second::cipher::{encipher_block, set_up};
-use second::edges::{cards, ciphers, seals};
+use second::edges::{cards, ciphers, cuts, records, seals};
 use second::entry::entry;
 
 const SAID_OF_CARDS: &str = "\
@@ -260,4 +261,126 @@ fn said_of_seals(cipher: u64) -> String {
 #[test]
 fn the_edge_cases_of_seals_are_as_said() {
     is_as_said(&seals(), &[1, 2, 3, 4].map(said_of_seals).concat());
+}
+
+/// What is said of each cipher's records: `<n>` stands for its number, `<c1>` and `<c2>`
+/// for the message of two blocks enciphered, `<x>` for the second under the other key,
+/// `<first>` for the first block, `<held>` for the last 15 bytes of the message, `<ee>`
+/// for an output as it was, `<zeros>` for the stream of a refused start, and `<16>` for
+/// the answer to a key length that only ciphers 1 and 2 have.
+const SAID_OF_RECORDS: &str = "\
+cipher <n>
+  a stream of zeros laid down: answer 6, output <ee><ee>eeeeeeeeeeeeeeee
+  a fresh stream laid down: answer 0, output 0<n>10010000000000<first>00000000000000000000000000000000
+  31 bytes fed, laid down in 39 of room: answer 9, output <ee><ee>eeeeeeeeeeeeee
+  then in 41 of room: answer 0, output 0<n>1001000000001f<c1><held>00ee
+  taken up: answer 0, direction 1, count 31, chain <c1>, held <held>, open
+  then a piece of 1: answer 0, writes 16, output <c2>
+  the stream that was laid down, a piece of 1: answer 0, writes 16, output <c2>
+  taken up under another key: answer 0, direction 1, count 31, chain <c1>, held <held>, open
+  then a piece of 1: answer 0, writes 16, output <x>
+  taken up under a schedule of zeros: answer 5, <zeros>
+  no bytes under a schedule of zeros: answer 5, <zeros>
+  no bytes: answer 15, <zeros>
+  39 bytes: answer 15, <zeros>
+  41 bytes: answer 15, <zeros>
+  44 bytes: answer 15, <zeros>
+  cipher 0: answer 15, <zeros>
+  cipher 5: answer 15, <zeros>
+  another cipher: answer 16, <zeros>
+  another cipher, and direction 3: answer 15, <zeros>
+  a key length of 15: answer 15, <zeros>
+  a key length of 24: answer <16>, <zeros>
+  a key length of 32: answer <16>, <zeros>
+  direction 0: answer 15, <zeros>
+  direction 2: answer 0, direction 2, count 31, chain <c1>, held <held>, open
+  direction 3: answer 15, <zeros>
+  closed, with 15 bytes held: answer 15, <zeros>
+  a closed byte of 2: answer 15, <zeros>
+  a count of 30: answer 15, <zeros>
+  a count of 16777247: answer 15, <zeros>
+  the last held byte 1: answer 15, <zeros>
+  32 bytes and finish, laid down: answer 0, output 0<n>10010100000020<c2>00000000000000000000000000000000
+  taken up: answer 0, direction 1, count 32, chain <c2>, held 000000000000000000000000000000, closed
+  then a piece of 1: answer 7, writes 0, output <ee>
+  a count of 1048576: answer 0, direction 1, count 1048576, chain <c2>, held 000000000000000000000000000000, open
+  then a piece of 1: answer 8, writes 0, output <ee>
+  a count of 1048577: answer 15, <zeros>
+";
+
+const OF_A_REFUSED_START: &str = "direction 0, count 0, \
+chain 00000000000000000000000000000000, held 000000000000000000000000000000, open";
+
+fn said_of_records(cipher: u64) -> String {
+    let (key, other) = (b"0123456789abcdef", b"fedcba9876543210");
+    let c1 = xor(*b"the message of t", *b"the first block.");
+    let c1 = worked(cipher, 1, key, c1);
+    let second = xor(*b"hirty-one bytest", c1);
+    let c2 = worked(cipher, 1, key, second);
+    let x = worked(cipher, 1, other, second);
+    SAID_OF_RECORDS
+        .replace("<n>", &cipher.to_string())
+        .replace("<c1>", &hex(c1))
+        .replace("<c2>", &hex(c2))
+        .replace("<x>", &hex(x))
+        .replace("<first>", &hex(*b"the first block."))
+        .replace("<held>", &hex(*b"hirty-one bytest")[..30])
+        .replace("<ee>", &hex(AS_IT_WAS))
+        .replace("<zeros>", OF_A_REFUSED_START)
+        .replace("<16>", if cipher < 3 { "16" } else { "15" })
+}
+
+#[test]
+fn the_edge_cases_of_records_are_as_said() {
+    is_as_said(&records(), &[1, 2, 3, 4].map(said_of_records).concat());
+}
+
+/// Chain and last block after 96 bytes, out of the definition of CBC.
+fn after_96(cipher: u64, key: &[u8], direction: u64) -> (Block, Block) {
+    let (mut chain, mut given) = (*b"the first block.", [0; 16]);
+    for j in 0..6 {
+        let block: Block = std::array::from_fn(|i| ((7 * (16 * j + i) + 3) % 256) as u8);
+        if direction == 1 {
+            given = worked(cipher, 1, key, xor(block, chain));
+            chain = given;
+        } else {
+            given = xor(worked(cipher, 2, key, block), chain);
+            chain = block;
+        }
+    }
+    (chain, given)
+}
+
+fn said_of_cuts(cipher: u64, length: usize, direction: u64) -> String {
+    let key = &b"0123456789abcdefghijklmnopqrstuv"[..length];
+    let (chain, given) = after_96(cipher, key, direction);
+    let (chain, given) = (hex(chain), hex(given));
+    let held = "a3aab1b8000000000000000000000000";
+    format!(
+        "cipher {cipher}, a key of {length} bytes, direction {direction}: \
+         5151 runs with one cut, 0 differ; 101 runs with a cut at every byte, 0 differ; \
+         after 100 bytes the record is \
+         {cipher:02x}{length:02x}{direction:02x}0000000064{chain}{held}, \
+         the last block written {given}\n"
+    )
+}
+
+#[test]
+fn the_cuts_at_every_byte_are_as_said() {
+    let mut said = String::new();
+    for (cipher, length) in [
+        (1, 16),
+        (1, 24),
+        (1, 32),
+        (2, 16),
+        (2, 24),
+        (2, 32),
+        (3, 16),
+        (4, 16),
+    ] {
+        for direction in [1, 2] {
+            said += &said_of_cuts(cipher, length, direction);
+        }
+    }
+    is_as_said(&cuts(), &said);
 }

@@ -26,7 +26,7 @@ fn the_committed_files_are_what_is_written_today() {
     let script = script(Extent::Whole);
     assert!(committed("script") == script, "the script differs");
     assert!(committed("answers") == run(&script), "the answers differ");
-    assert!(script.len() < 1_400_000 && run(&script).len() < 1_800_000);
+    assert!(script.len() < 1_600_000 && run(&script).len() < 3_700_000);
 }
 
 #[test]
@@ -52,28 +52,31 @@ fn the_parts_hold_the_calls_they_are_for() {
     let blocks = script(Extent::Blocks);
     assert_eq!(numbers(&blocks), BTreeSet::from([1, 2, 3, 7, 8]));
     let whole = script(Extent::Whole);
-    assert_eq!(numbers(&whole), BTreeSet::from_iter(1..=0x11));
+    assert_eq!(numbers(&whole), BTreeSet::from_iter(1..=0x13));
 }
 
-/// The calls of the base, of request 2 and of request 3.
+/// The calls of the base, of request 2 and of request 3; what stands behind is request 5's.
 struct Parts {
     base: Vec<Call>,
     request_2: Vec<Call>,
     request_3: Vec<Call>,
 }
 
-/// No other call stands within the cards part, and the seals part begins with a call on
-/// seals.
+/// No other call stands within the cards part; the seals part begins with a call on seals,
+/// the records part with one on records.
 fn parts() -> Parts {
     let mut base = calls(&script(Extent::Whole));
     let of_cards = |call: &Call| (0x0A..=0x0C).contains(&call.number());
     let of_seals = |call: &Call| call.number() > 0x0C;
+    let of_records = |call: &Call| call.number() > 0x11;
     let first = |calls: &[Call], of: fn(&Call) -> bool| calls.iter().position(of).unwrap();
+    let request_5 = base.split_off(first(&base, of_records));
     let request_3 = base.split_off(first(&base, of_seals));
     let mut cards = base.split_off(first(&base, of_cards));
     let length = cards.iter().take_while(|call| of_cards(call)).count();
     let request_2 = cards.split_off(length);
-    assert!(!request_2.iter().chain(&request_3).any(of_cards));
+    let mut behind = request_2.iter().chain(&request_3).chain(&request_5);
+    assert!(!behind.any(of_cards));
     Parts {
         base,
         request_2,
@@ -208,6 +211,8 @@ fn every_answer_of_every_call_occurs() {
         (0x0E, BTreeSet::from([0, 6, 7, 8])),
         (0x0F, BTreeSet::from([0, 6, 7, 9])),
         (0x10, BTreeSet::from([0, 6, 7])),
+        (0x12, BTreeSet::from([0, 6, 9])),
+        (0x13, BTreeSet::from([0, 5, 15, 16])),
     ]);
     assert_eq!(answers, expected);
 }
@@ -662,7 +667,7 @@ fn an_empty_script_has_no_answers() {
 
 #[test]
 fn an_unknown_call_ends_with_ff() {
-    for number in [0, 0x12, 0x13, 0x7F, 0xFF] {
+    for number in [0, 0x14, 0x15, 0x7F, 0xFF] {
         let script = [set_up_call(), vec![number], set_up_call()].concat();
         let answers = run(&script);
         assert_eq!(answers.len(), 292);
@@ -694,6 +699,7 @@ fn a_length_over_8192_ends_with_ff() {
         ("0C 00000000", ""),
         ("0E", ""),
         ("10", ""),
+        ("13", ""),
     ] {
         let with = |length: usize| {
             let string = [hex(&format!("{length:08X}")), vec![0; length]];
@@ -704,6 +710,8 @@ fn a_length_over_8192_ends_with_ff() {
     }
     assert_eq!(run(&hex("0F 00002000 01")).len(), 1 + 8192 + 331);
     assert_eq!(run(&hex("0F 00002001 01")), [0xFF]);
+    assert_eq!(run(&hex("12 00002000 01")).len(), 1 + 8192);
+    assert_eq!(run(&hex("12 00002001 01")), [0xFF]);
 }
 
 #[test]
@@ -730,6 +738,8 @@ fn a_script_cut_anywhere_within_a_call_ends_with_ff() {
         hex("0F 00000010 00"),
         hex(&format!("10 00000010 {BLOCK}")),
         [vec![0x11], vec![0; 331]].concat(),
+        hex("12 00000028 00"),
+        hex(&format!("13 00000010 {BLOCK}")),
     ];
     for call in calls {
         assert_ne!(run(&call), [0xFF]);

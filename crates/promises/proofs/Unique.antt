@@ -11,6 +11,7 @@ use Rattle.cipher.specs.Promises.{SetsUp, WorksBlock}
 use Rattle.cipher.specs.declared.Schedule.{Schedule}
 use Rattle.cipher.specs.declared.SetUp.{SetUp}
 use Rattle.stream.specs.Promises.{Starts, Feeds, Finishes}
+use Rattle.stream_record.specs.Promises.{LaysDown, TakesUp}
 use Rattle.stream.specs.declared.Stream.{Stream}
 use Rattle.stream.specs.declared.Started.{Started}
 use Rattle.stream.specs.declared.Fed.{Fed}
@@ -43,6 +44,12 @@ one-feed s p o r r′ q q′ h h′ = (h .returned ∙ sym (h′ .returned), h .
 
 pub one-finish : (s : Stream) (r r′ : Finished) → Finishes s r → Finishes s r′ → r ≡ r′
 one-finish s r r′ h h′ = h .returned ∙ sym (h′ .returned)
+
+pub one-laid-down : (s : Stream) (o : List ℕ) (r r′ : ℕ) (q q′ : List ℕ) → LaysDown s o r q → LaysDown s o r′ q′ → (r ≡ r′) × (q ≡ q′)
+one-laid-down s o r r′ q q′ h h′ = (h .answered ∙ sym (h′ .answered), h .left ∙ sym (h′ .left))
+
+pub one-taken-up : (s : Schedule) (b : List ℕ) (r r′ : Started) → TakesUp s b r → TakesUp s b r′ → r ≡ r′
+one-taken-up s b r r′ h h′ = h .returned ∙ sym (h′ .returned)
 
 pub one-entry : (c d : ℕ) (key x o : List ℕ) (r r′ : ℕ) (q q′ : List ℕ)
     → WorksForC c d key x o r q → WorksForC c d key x o r′ q′ → (r ≡ r′) × (q ≡ q′)

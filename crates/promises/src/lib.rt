@@ -11,6 +11,7 @@ ghost use Rattle.hex.specs.Read.{Read};
 ghost use Rattle.card.specs.Promises.{Judges, Finds, Puts};
 ghost use Rattle.cipher.specs.Promises.{SetsUp, EnciphersBlock, DeciphersBlock};
 ghost use Rattle.stream.specs.Promises.{Starts, Feeds, Finishes};
+ghost use Rattle.stream_record.specs.Promises.{LaysDown, TakesUp};
 ghost use Rattle.seal.specs.Promises.{StartsSeal, FeedsSeal, WritesSeal, ChecksSeal};
 ghost use Rattle.entry.specs.Entry.{WorksForC, TellsVersion};
 ghost use Rattle.speed.specs.Works.{WorksBlocks, WorksMessage, WorksBytes};
@@ -51,6 +52,18 @@ pub fn finish(s: Stream) -> Finished
     ensures { λ r. ⌜ Finishes s r ⌝ }
 {
     s.finish()
+}
+
+pub fn lay_down(s: Stream, out: &mut [u8]) -> u8
+    ensures { λ r. ⌜ LaysDown s (now (out .entry)) r (now (out .exit)) ⌝ }
+{
+    stream_record::lay_down(s, out)
+}
+
+pub fn take_up(schedule: Schedule, record: &[u8]) -> Started
+    ensures { λ r. ⌜ TakesUp schedule (now («record» .entry)) r ⌝ }
+{
+    stream_record::take_up(schedule, record)
 }
 
 pub fn block_for_c(cipher: u64, direction: u64, key: &[u8], input: &[u8], output: &mut [u8]) -> u64

@@ -58,3 +58,9 @@ seal-write-clear s e r = clear ((s, refusal.badState) ∷ (e, refusal.closed) �
 
 pub seal-check-clear : (s e : Bool) → refusal.sealCheckOrder s e ≡ refusal.done → Clear (s ∷ e ∷ [])
 seal-check-clear s e = clear ((s, refusal.badState) ∷ (e, refusal.closed) ∷ []) (refl, (refl, tt))
+
+pub lay-down-clear : (s r : Bool) → refusal.layDownOrder s r ≡ refusal.done → Clear (s ∷ r ∷ [])
+lay-down-clear s r = clear ((s, refusal.badState) ∷ (r, refusal.noRoom) ∷ []) (refl, (refl, tt))
+
+pub take-up-clear : (s r o : Bool) → refusal.takeUpOrder s r o ≡ refusal.done → Clear (s ∷ r ∷ o ∷ [])
+take-up-clear s r o = clear ((s, refusal.badSchedule) ∷ (r, refusal.badStreamRecord) ∷ (o, refusal.otherSchedule) ∷ []) (refl, (refl, (refl, tt)))

@@ -1,4 +1,4 @@
--- The refusals: 01, 'Refusal numbers', and 02, requests 1 and 3. Their numbers, and the order of each call, in which the first that applies is given; 0 is done.
+-- The refusals: 01, 'Refusal numbers', and 02, requests 1, 3 and 5. Their numbers, and the order of each call, in which the first that applies is given; 0 is done.
 use mathlib.Core.Bool.{Bool}
 use mathlib.Core.List.{List, [], _∷_}
 use Prim.Native.Nat.{ℕ}
@@ -50,6 +50,12 @@ badRecord = 13
 abbrev pub noSlot : ℕ
 noSlot = 14
 
+abbrev pub badStreamRecord : ℕ
+badStreamRecord = 15
+
+abbrev pub otherSchedule : ℕ
+otherSchedule = 16
+
 -- ---- the orders: each argument says whether its cause applies
 -- the first of the causes that applies: each says whether it does, and its number
 abbrev pub first : List (Bool × ℕ) → ℕ
@@ -88,3 +94,9 @@ sealWriteOrder s e r = first ((s, badState) ∷ (e, closed) ∷ (r, noRoom) ∷ 
 
 abbrev pub sealCheckOrder : (state ended : Bool) → ℕ
 sealCheckOrder s e = first ((s, badState) ∷ (e, closed) ∷ [])
+
+abbrev pub layDownOrder : (state room : Bool) → ℕ
+layDownOrder s r = first ((s, badState) ∷ (r, noRoom) ∷ [])
+
+abbrev pub takeUpOrder : (schedule «record» other : Bool) → ℕ
+takeUpOrder s r o = first ((s, badSchedule) ∷ (r, badStreamRecord) ∷ (o, otherSchedule) ∷ [])

@@ -2,6 +2,7 @@
 pub mod block;
 pub mod entry;
 pub mod finish;
+pub mod lay_down;
 pub mod piece;
 pub mod put;
 pub mod seal_check;
@@ -10,6 +11,7 @@ pub mod seal_start;
 pub mod seal_write;
 pub mod set_up;
 pub mod start;
+pub mod take_up;
 
 pub const DONE: u8 = 0;
 
@@ -40,3 +42,7 @@ pub const BAD_CARD: u8 = 12;
 pub const BAD_RECORD: u8 = 13;
 
 pub const NO_SLOT: u8 = 14;
+
+pub const BAD_STREAM_RECORD: u8 = 15;
+
+pub const OTHER_SCHEDULE: u8 = 16;

@@ -1,7 +1,6 @@
 // The calls of a script, by number, and what is kept behind each.
 use crate::Kept;
 use crate::Turn;
-use crate::stream_calls;
 use script::reading;
 use script::writing;
 
@@ -87,6 +86,8 @@ pub fn call(code: u64, kept: Kept) -> Turn {
         15 => with_seal(seal_calls::write(kept.seal), kept),
         16 => with_seal(seal_calls::check(kept.seal), kept),
         17 => with_seal(seal_calls::keep(), kept),
+        18 => same(stream_calls::lay_down(kept.stream), kept),
+        19 => with_stream(stream_calls::take_up(kept.schedule, kept.stream), kept),
         _ => same(false, kept),
     }
 }

@@ -1,6 +1,5 @@
 // Makes the calls that a script on standard input tells it to, and writes everything that comes back to standard output.
 mod calls;
-mod stream_calls;
 
 use cipher::Schedule;
 use script::reading;

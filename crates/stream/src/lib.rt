@@ -2,7 +2,7 @@
 use cipher::Schedule;
 
 mod blocks;
-mod state;
+pub mod state;
 
 ghost use mathlib.Core.Path.{_≡_};
 ghost use Rattle.stream.specs.State.{fresh, zeroStream};
@@ -49,7 +49,7 @@ fn fresh(schedule: Schedule, direction: u8, first: [u8; 16]) -> Stream
 }
 
 // A refused start, with the all-zero stream.
-fn not_started(answer: u8) -> Started
+pub fn not_started(answer: u8) -> Started
     ensures { λ r. ⌜ r ≡ startedAs answer zeroStream ⌝ }
 {
     let schedule = cipher::no_schedule();

@@ -2,10 +2,14 @@
 
 mod cards;
 mod ciphers;
+mod cuts;
+mod records;
 mod seals;
 
 pub use cards::{cards, full, standard};
 pub use ciphers::ciphers;
+pub use cuts::cuts;
+pub use records::records;
 pub use seals::seals;
 
 /// What every output holds before the call.

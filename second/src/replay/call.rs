@@ -72,6 +72,12 @@ pub enum Call {
         given: Vec<u8>,
     },
     KeepSeal(Box<[u8; SEAL_BYTES]>),
+    LayDown {
+        buffer: Buffer,
+    },
+    TakeUp {
+        record: Vec<u8>,
+    },
 }
 
 impl Call {
@@ -94,11 +100,12 @@ impl Call {
             Call::WriteSeal { .. } => 0x0F,
             Call::CheckSeal { .. } => 0x10,
             Call::KeepSeal(_) => 0x11,
+            Call::LayDown { .. } => 0x12,
+            Call::TakeUp { .. } => 0x13,
         }
     }
 
     pub fn bytes(&self) -> Vec<u8> {
-        let number = vec![self.number()];
         let rest = match self {
             Call::SetUp { cipher, key } => vec![eight(*cipher), string(key)],
             Call::Encipher { block, buffer } | Call::Decipher { block, buffer } => {
@@ -106,7 +113,7 @@ impl Call {
             }
             Call::Start { direction, first } => vec![eight(*direction), string(first)],
             Call::Piece { piece, buffer } => vec![string(piece), room(*buffer)],
-            Call::Finish => vec![],
+            Call::Finish | Call::StartSeal => vec![],
             Call::Entry {
                 cipher,
                 direction,
@@ -129,13 +136,13 @@ impl Call {
                 segment,
             } => vec![string(card), eight(*recipe), eight(*segment)],
             Call::Put { card, record } => vec![string(card), string(record)],
-            Call::StartSeal => vec![],
             Call::PieceOfSeal { piece } => vec![string(piece)],
-            Call::WriteSeal { buffer } => vec![room(*buffer)],
+            Call::WriteSeal { buffer } | Call::LayDown { buffer } => vec![room(*buffer)],
             Call::CheckSeal { given } => vec![string(given)],
             Call::KeepSeal(bytes) => vec![bytes.to_vec()],
+            Call::TakeUp { record } => vec![string(record)],
         };
-        [number, rest.concat()].concat()
+        [vec![self.number()], rest.concat()].concat()
     }
 }
 

@@ -8,6 +8,7 @@ use super::record::{stream_bytes, stream_from};
 use crate::card::{find, good, put, Put};
 use crate::cipher::{decipher_block, encipher_block, set_up, OneBlock, Schedule};
 use crate::entry::entry;
+use crate::reading::{lay_down, take_up, LaidDown};
 use crate::seal::{self, Seal};
 use crate::stream::{feed, finish, start, Next, Stream};
 
@@ -64,14 +65,8 @@ impl Kept {
                 block,
                 buffer,
             } => one_block(entry(cipher, direction, &key, &block, &buffer.bytes())),
-            Call::KeepSchedule(bytes) => {
-                self.schedule = schedule_from(&bytes);
-                Vec::new()
-            }
-            Call::KeepStream(bytes) => {
-                self.stream = stream_from(&bytes);
-                Vec::new()
-            }
+            Call::KeepSchedule(bytes) => keep(&mut self.schedule, schedule_from(&bytes)),
+            Call::KeepStream(bytes) => keep(&mut self.stream, stream_from(&bytes)),
             Call::IsGood { card } => vec![u8::from(good(&card))],
             Call::Find {
                 card,
@@ -83,10 +78,9 @@ impl Kept {
             Call::PieceOfSeal { piece } => self.next_seal(seal::feed(&self.seal, &piece)),
             Call::WriteSeal { buffer } => self.write_seal(&buffer.bytes()),
             Call::CheckSeal { given } => self.check_seal(&given),
-            Call::KeepSeal(bytes) => {
-                self.seal = seal_from(&bytes);
-                Vec::new()
-            }
+            Call::KeepSeal(bytes) => keep(&mut self.seal, seal_from(&bytes)),
+            Call::LayDown { buffer } => laid_down(lay_down(&self.stream, &buffer.bytes())),
+            Call::TakeUp { record } => self.next(take_up(&self.schedule, &record)),
         }
     }
 
@@ -132,7 +126,17 @@ impl Kept {
     }
 }
 
+/// Nothing is written for a record that is kept.
+fn keep<T>(kept: &mut T, record: T) -> Vec<u8> {
+    *kept = record;
+    Vec::new()
+}
+
 fn one_block(back: OneBlock) -> Vec<u8> {
+    [&[back.answer.number()], &back.out[..]].concat()
+}
+
+fn laid_down(back: LaidDown) -> Vec<u8> {
     [&[back.answer.number()], &back.out[..]].concat()
 }
 

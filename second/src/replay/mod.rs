@@ -12,6 +12,7 @@ pub mod faults;
 pub mod interpreter;
 pub mod reader;
 pub mod record;
+mod records;
 pub mod script;
 mod seals;
 mod states;
@@ -21,7 +22,7 @@ pub mod vectors;
 pub use interpreter::run;
 
 /// How much of the script is wanted: behind the blocks part stand streams, then cards,
-/// then request 2's, then seals.
+/// then request 2's, then seals, then records.
 #[derive(Clone, Copy, Debug, PartialEq, Eq)]
 pub enum Extent {
     Blocks,
@@ -37,6 +38,7 @@ pub fn script(extent: Extent) -> Vec<u8> {
         cards::write(&mut script);
         designers::write(&mut script);
         seals::write(&mut script);
+        records::write(&mut script);
     }
     script.bytes
 }

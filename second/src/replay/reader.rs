@@ -21,7 +21,14 @@ impl<'a> Reader<'a> {
 
     /// The next call; nothing if it is unknown, too long or cut off.
     pub fn call(&mut self) -> Option<Call> {
-        Some(match self.take(1)?[0] {
+        match self.take(1)?[0] {
+            number @ 0..=9 => self.call_of_the_base(number),
+            number => self.call_of_a_request(number),
+        }
+    }
+
+    fn call_of_the_base(&mut self, number: u8) -> Option<Call> {
+        Some(match number {
             1 => Call::SetUp {
                 cipher: self.eight()?,
                 key: self.string()?,
@@ -46,6 +53,12 @@ impl<'a> Reader<'a> {
             7 => self.entry()?,
             8 => Call::KeepSchedule(Box::new(self.array()?)),
             9 => Call::KeepStream(Box::new(self.array()?)),
+            _ => return None,
+        })
+    }
+
+    fn call_of_a_request(&mut self, number: u8) -> Option<Call> {
+        Some(match number {
             0x0A => Call::IsGood {
                 card: self.string()?,
             },
@@ -65,6 +78,12 @@ impl<'a> Reader<'a> {
                 given: self.string()?,
             },
             0x11 => Call::KeepSeal(Box::new(self.array()?)),
+            0x12 => Call::LayDown {
+                buffer: self.buffer()?,
+            },
+            0x13 => Call::TakeUp {
+                record: self.string()?,
+            },
             _ => return None,
         })
     }

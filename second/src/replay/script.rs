@@ -118,6 +118,15 @@ impl Script {
     pub fn keep_seal(&mut self, seal: &Seal) {
         self.call(Call::KeepSeal(Box::new(seal_bytes(seal))));
     }
+
+    pub fn lay_down(&mut self, buffer: Buffer) {
+        self.call(Call::LayDown { buffer });
+    }
+
+    pub fn take_up(&mut self, record: &[u8]) {
+        let record = record.to_vec();
+        self.call(Call::TakeUp { record });
+    }
 }
 
 pub fn room(room: usize, filler: u8) -> Buffer {

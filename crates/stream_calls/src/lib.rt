@@ -89,3 +89,29 @@ pub fn finish(stream: Stream) -> Left {
     writing::byte(done.answer);
     returned(done.next)
 }
+
+// Whether the script had all of the call; the stream stays as it is.
+pub fn lay_down(stream: Stream) -> bool {
+    let mut out = [0u8; 8192];
+    let o = reading::buffer(&mut out);
+    let room = o.len;
+    if !o.ok {
+        return false;
+    }
+    let answer = stream_record::lay_down(stream, &mut out[..room]);
+    writing::byte(answer);
+    writing::front(&out, room);
+    true
+}
+
+pub fn take_up(schedule: Schedule, old: Stream) -> Left {
+    let mut record = [0u8; 8192];
+    let r = reading::string(&mut record);
+    let n = r.len;
+    if !r.ok {
+        return broken(old);
+    }
+    let taken = stream_record::take_up(schedule, &record[..n]);
+    writing::byte(taken.answer);
+    returned(taken.stream)
+}
