@@ -14,8 +14,8 @@ pub none : (o : List ℕ) → Begun o [] 0 o
 none o = record { long = refl; is = refl }
 
 -- and m bytes more behind them
-pub behind : {o p : List ℕ} {n : ℕ} {o′ : List ℕ} (b : List ℕ) (m : ℕ) {o″ : List ℕ} → length b ≡ m → Begun o p n o′ → o″ ≡ take n o′ ++ b ++ drop (n + m) o′
-    → Begun o (p ++ b) (n + m) o″
+pub behind : {o p : List ℕ} {n : ℕ} {o′ : List ℕ} (b : List ℕ) (m : ℕ) {o″ : List ℕ} → length b ≡ m → Begun o p n o′
+    → o″ ≡ take n o′ ++ b ++ drop (n + m) o′ → Begun o (p ++ b) (n + m) o″
 behind {o} {p} {n} {o′} b m {o″} l s e =
     let front : take n o′ ≡ p = ap (take n) (s .is) ∙ take-at p (drop n o) n (s .long) in
     let rest : drop n o′ ≡ drop n o = ap (drop n) (s .is) ∙ drop-at p (drop n o) n (s .long) in

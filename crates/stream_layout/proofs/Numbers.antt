@@ -13,6 +13,10 @@ pub length-bytesIn : (w n : ℕ) → length (bytesIn w n) ≡ w
 length-bytesIn zero n = refl
 length-bytesIn (suc w) n = ap suc (length-bytesIn w n)
 
+-- what a number leaves behind its w + 1 last bytes is what the w last leave, less one byte
+pub one-more : (n w : ℕ) → n / 256 ^ w / 256 ≡ n / 256 ^ suc w
+one-more n w = div-div-eq-div-mul n (256 ^ w) 256 ∙ ap (λ (p : ℕ). n / p) (sym (pow-suc 256 w))
+
 -- ---- put, from the last byte on
 -- all bytes of the field from k on are laid, and `rest` is what is left of n
 pub record Laid (o : List ℕ) (at width n : ℕ) (o′ : List ℕ) (rest k : ℕ) : Type 0 where
@@ -30,19 +34,20 @@ module _ (o : List ℕ) (at width n : ℕ) where
         bytes = rw none (sym (take-append-drop (at + width) o));
       }
 
-  pub put-step : at + width ≤ length o → (o′ : List ℕ) (rest j : ℕ) → Laid o at width n o′ rest (suc j) → Laid o at width n (set o′ (at + j) (rest % 256)) (rest / 256) j
+  pub put-step : at + width ≤ length o → (o′ : List ℕ) (rest j : ℕ) → Laid o at width n o′ rest (suc j)
+      → Laid o at width n (set o′ (at + j) (rest % 256)) (rest / 256) j
   put-step fits o′ rest j h =
       let w = h .within in
       let more : width - j ≡ suc (width - suc j) = omega arith in
       let next : at + suc j ≡ suc (at + j) = omega arith in
       let B : List ℕ = bytesIn (width - suc j) n ++ drop (at + width) o in
-      let one-more = take-suc o (at + j) 0 (omega arith) in
+      let longer = take-suc o (at + j) 0 (omega arith) in
       let laid-so-far : o′ ≡ take (at + j) o ++ getD o (at + j) 0 ∷ B =
-      h .bytes ∙ ap (λ (k : ℕ). take k o ++ B) next ∙ ap (λ (l : List ℕ). l ++ B) one-more ∙ append-snoc (take (at + j) o) (getD o (at + j) 0) B in
+      h .bytes ∙ ap (λ (k : ℕ). take k o ++ B) next ∙ ap (λ (l : List ℕ). l ++ B) longer ∙ append-snoc (take (at + j) o) (getD o (at + j) 0) B in
       let stored = set-at (take (at + j) o) (getD o (at + j) 0) B (rest % 256) (at + j) (length-take-le (at + j) o (omega arith)) in
       record {
         within = omega arith;
-        rest-is = ap (λ (r : ℕ). r / 256) (h .rest-is) ∙ div-div-eq-div-mul n (256 ^ (width - suc j)) 256 ∙ ap (λ (p : ℕ). n / p) (sym (pow-suc 256 (width - suc j))) ∙ ap (λ (k : ℕ). n / 256 ^ k) (sym more);
+        rest-is = ap (λ (r : ℕ). r / 256) (h .rest-is) ∙ one-more n (width - suc j) ∙ ap (λ (k : ℕ). n / 256 ^ k) (sym more);
         bytes =
             ap (λ (l : List ℕ). set l (at + j) (rest % 256)) laid-so-far ∙ stored
             ∙ ap (λ (r : ℕ). take (at + j) o ++ (r % 256) ∷ B) (h .rest-is)

@@ -2,15 +2,12 @@
 use mathlib.Core.Path.{_≡_, refl, sym, ap, ap₂, _∙_}
 use mathlib.Core.List.{List, [], _∷_}
 use Prim.Native.Nat.{ℕ, zero, suc, _+_, _*_, _/_, _%_, _^_, _<_}
-use native.Mathlib.Nat.{pow-suc, div-div-eq-div-mul, div-eq-of-lt}
+use native.Mathlib.Nat.{div-eq-of-lt}
 use native.Mathlib.Omega.{arith}
 use lib.ListN.{length}
 use Rattle.laws.proofs.Words.{Words}
 use Rattle.stream_layout.specs.Number.{bytesIn, numberFrom, numberOf}
-
--- what w + 1 bytes leave of a number is what the last of them leaves of what w leave
-one-more : (n w : ℕ) → n / 256 ^ suc w ≡ n / 256 ^ w / 256
-one-more n w = ap (λ (p : ℕ). n / p) (pow-suc 256 w) ∙ sym (div-div-eq-div-mul n (256 ^ w) 256)
+use Rattle.stream_layout.proofs.Numbers.{one-more}
 
 -- ---- its bytes spell it
 spelt-back : (w n : ℕ) → numberFrom (n / 256 ^ w) (bytesIn w n) ≡ n
@@ -28,7 +25,7 @@ number-before : (a : ℕ) (bs : List ℕ) → Words 8 bs → numberFrom a bs / 2
 number-before a [] h = omega arith
 number-before a (b ∷ bs) h =
     let l = h .0 in
-    one-more (numberFrom (a * 256 + b) bs) (length bs) ∙ ap (λ (x : ℕ). x / 256) (number-before (a * 256 + b) bs (h .1)) ∙ omega arith
+    sym (one-more (numberFrom (a * 256 + b) bs) (length bs)) ∙ ap (λ (x : ℕ). x / 256) (number-before (a * 256 + b) bs (h .1)) ∙ omega arith
 
 written-back : (a : ℕ) (bs : List ℕ) → Words 8 bs → bytesIn (length bs) (numberFrom a bs) ≡ bs
 written-back a [] h = refl

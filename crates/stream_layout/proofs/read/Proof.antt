@@ -35,7 +35,15 @@ returns c =
     let start = counted .before .before in
     let r = start .args .«record» .now in
     let l = start .pre in
-    rw (one-byte r 0 (omega arith), one-byte r 1 (omega arith), one-byte r 2 (omega arith), one-byte r 3 (omega arith), counted .at .ensures, chained .block-at .ensures, held .block-at2 .ensures)
+    rw (
+      one-byte r 0 (omega arith),
+      one-byte r 1 (omega arith),
+      one-byte r 2 (omega arith),
+      one-byte r 3 (omega arith),
+      counted .at .ensures,
+      chained .block-at .ensures,
+      held .block-at2 .ensures,
+    )
 
 pub read-spec : {M : Type 1} → statement M
 read-spec =

@@ -32,9 +32,11 @@ loop-less c = omega arith
 
 loop-again : tie.Need-loop-again Inv-loop μ-loop
 loop-again c = let start = c .before .before in
-    let one : c .before .loop .k ≡ suc (c .before .loop .k - 1) = omega arith in
+    let a = start .args in
+    let now = c .before .loop in
+    let one : now .k ≡ suc (now .k - 1) = omega arith in
     put-step _ _ _ _ (start .pre) _ _ _
-    (subst (λ (k : ℕ). Laid (start .args .bytes .now) (start .args .at) (start .args .width) (start .args .n) (c .before .loop .bytes) (c .before .loop .rest) k) one (c .before .loop .inv))
+    (subst (λ (k : ℕ). Laid (a .bytes .now) (a .at) (a .width) (a .n) (now .bytes) (now .rest) k) one (now .inv))
 
 same-length : tie.Need-same-length Inv-loop μ-loop
 same-length c = put-length _ _ _ _ (c .before .before .pre) _ _ _ (c .before .loop .inv)
