@@ -10,6 +10,13 @@ use std::process::{exit, Command};
 
 const ENTRY: &str = "tlilcueyoh_block";
 
+/// What the names of the tools for x86-64 begin with on the machine that builds.
+const BINUTILS: &str = if cfg!(target_arch = "x86_64") {
+    ""
+} else {
+    "x86_64-linux-gnu-"
+};
+
 fn main() {
     println!("cargo:rerun-if-env-changed=TLILCUEYOH_LIB");
     let archive = archive();
@@ -34,10 +41,10 @@ fn archive() -> PathBuf {
 /// Writes `object`: the entry of `archive` and what it needs there, under local names.
 /// Bitcode sections, which don't bear being joined, stay behind.
 fn take_entry(archive: &Path, object: &Path) {
-    run(Command::new("ld")
+    run(Command::new(format!("{BINUTILS}ld"))
         .args(["-r", "--force-group-allocation", "-u", ENTRY, "-o"])
         .args([object, archive]));
-    run(Command::new("objcopy")
+    run(Command::new(format!("{BINUTILS}objcopy"))
         .args(["--strip-debug", "-R", ".llvmbc", "-R", ".llvmcmd"])
         .arg(format!("--keep-global-symbol={ENTRY}"))
         .arg(object));
