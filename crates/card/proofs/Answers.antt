@@ -1,23 +1,25 @@
 -- The answers of the three calls: one law for each outcome, in the order in which the code comes to it.
-use mathlib.Core.Path.{_≡_, refl, sym, ap, ap₂, _∙_}
-use mathlib.Core.Bool.{Bool, true, false, not, _&&_, and-true, and-false}
+use mathlib.Core.Path.{_≡_, refl, sym, ap, ap₂, _∙_, subst}
+use mathlib.Core.Bool.{Bool, true, false, not, _&&_, and-true, and-false, true≢false}
 use mathlib.Core.List.{List, [], _∷_}
 use Prim.Native.Nat.{ℕ, _+_, _*_, _/_, _%_, _≤_, _<_}
 use native.Mathlib.Omega.{arith}
 use lib.Dec.{leb, ltb}
 use lib.ListN.{length, take}
-use lib.Seq.{take-all}
+use lib.Seq.{take-all, length-take-le}
 use borrow.Author.Tests.{eq-eqb, ne-eqb, le-leb, lt-leb, lt-ltb, le-ltb, ltb-true, ltb-false, leb-false, not-false}
 use Rattle.laws.specs.Choice.{choose}
 use Rattle.refusals.specs.Refusals as refusal
 use Rattle.refusals.proofs.Clear.{Clear, put-clear}
 use Rattle.card.specs.Slot.{empty, recipe, segment, legal, illegal, goodRecord}
-use Rattle.card.specs.Card.{slot, slots, some, pairs, noneTwice, good}
+use Rattle.card.specs.Card.{slot, slots, every, some, pairs, noneTwice, good}
 use Rattle.card.specs.Find.{place, named, found, findPart, findAt}
 use Rattle.card.specs.Put.{namesake, goesTo, nowhere, putAnswer, written, putCard}
+use Rattle.card.specs.code.Order.{InOrder, Apart, JudgesInOrder}
 use Rattle.card.proofs.Rules.{record-16}
 use Rattle.card.proofs.Slots.{slots-length, slots-at}
 use Rattle.card.proofs.Twice.{every-some, some-place}
+use Rattle.card.proofs.Arranged.{apart-none, apart-ordered}
 
 -- the first slot of which a test holds is one of the card's, or the test holds of none
 module _ (t : List ℕ → Bool) (card : List ℕ) (x : ℕ) (e : x ≡ place t (slots card)) where
@@ -49,6 +51,26 @@ module _ (card : List ℕ) where
       pub good-legal : length card / 16 ≤ x → {t : Bool} → t ≡ noneTwice (pairs (slots card)) → t ≡ good card
       unfolding good
       good-legal h f = rw (eq-eqb _ _ a, le-leb _ _ b, every-some legal (slots card), has-not illegal card x e h) f
+
+-- judged with the keys of its slots in order
+pub judged-bad : (card keys : List ℕ) → false ≡ good card → JudgesInOrder card false 0 keys
+judged-bad card keys e = record { answered = e; few = omega arith; ordered = λ z. absurd (true≢false (sym z)) }
+
+module _ (card : List ℕ) (a : length card % 16 ≡ 0) (b : length card ≤ 4096) (x : ℕ) (e : x ≡ place illegal (slots card)) (h : length card / 16 ≤ x) where
+  all-legal : every legal (slots card) ≡ true
+  all-legal = every-some legal (slots card) ∙ ap not (has-not illegal card x e h)
+
+  pub judged-ordered : (keys : List ℕ) (n m : ℕ) → m ≡ n → n ≤ length keys → InOrder card keys n → (r : Bool) → Apart (take m keys) r → JudgesInOrder card r n keys
+  judged-ordered keys n m z l w r v =
+      let few : length card / 16 ≤ 256 = omega arith in
+      let apart : Apart (take n keys) r = subst (λ (k : ℕ). Apart (take k keys) r) z v in
+      let long = length-take-le n keys l in
+      let most = w .few in
+      record {
+        answered = good-legal card a b x e h (apart-none card (take n keys) (w .sorted) all-legal few apart);
+        few = w .few;
+        ordered = apart-ordered card (take n keys) (w .sorted) all-legal few apart (omega arith);
+      }
 
 -- ---- finding
 module _ (card : List ℕ) (p : ℕ × ℕ) where

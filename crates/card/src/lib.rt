@@ -1,4 +1,5 @@
 // Recipe cards: whether a card is good, finding a recipe's segment, putting a record (02, request 1). No cipher is known here.
+mod order;
 mod pairs;
 mod search;
 mod slot;
@@ -7,22 +8,46 @@ ghost use mathlib.Core.Path.{_≡_};
 ghost use lib.ListN.{length};
 ghost use Rattle.card.specs.Card.{slots};
 ghost use Rattle.card.specs.Put.{goesTo};
+ghost use Rattle.card.specs.code.Order.{JudgesInOrder};
 ghost use Rattle.card.specs.Promises.{Judges, Finds, Puts};
+
+// Whether a card is good and, if so, how many slots of it are filled.
+pub struct Judged {
+    pub good: bool,
+    pub filled: usize,
+}
+
+const BAD: Judged = Judged {
+    good: false,
+    filled: 0,
+};
+
+// A card judged. Of a good one the keys of its filled slots are put to the front of `keys`, by recipe, then segment.
+pub fn judge(card: &[u8], keys: &mut [u32]) -> Judged
+    requires { ⌜ length (now keys) ≡ 256 ⌝ }
+    ensures { λ r. ⌜ JudgesInOrder (now (card .entry)) (r .good) (r .filled) (now (keys .exit)) ⌝ }
+{
+    if card.len() % 16 != 0 {
+        return BAD;
+    }
+    if card.len() > 4096 {
+        return BAD;
+    }
+    if search::of_illegal(card) < card.len() / 16 {
+        return BAD;
+    }
+    let filled = order::by_pair(card, keys);
+    let good = order::apart(&keys[0..filled]);
+    Judged { good, filled }
+}
 
 // Is the card good?
 pub fn good(card: &[u8]) -> bool
     ensures { λ r. ⌜ Judges (now (card .entry)) r ⌝ }
 {
-    if card.len() % 16 != 0 {
-        return false;
-    }
-    if card.len() > 4096 {
-        return false;
-    }
-    if search::of_illegal(card) < card.len() / 16 {
-        return false;
-    }
-    pairs::none_twice(card)
+    let mut keys = [0u32; 256];
+    let j = judge(card, &mut keys);
+    j.good
 }
 
 // The very slot of a recipe's segment, a part of the lent card; its empty part where there is none or the card is bad.

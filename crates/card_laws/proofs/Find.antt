@@ -2,28 +2,32 @@
 use mathlib.Core.Path.{_≡_, refl, sym, ap, _∙_, subst}
 use mathlib.Core.Bool.{Bool, true, false, not, _&&_, true≢false}
 use mathlib.Core.List.{List, [], _∷_}
-use Prim.Native.Nat.{ℕ, zero, suc, _*_, _%_, _≤_, _<_}
+use Prim.Native.Nat.{ℕ, zero, suc, _*_, _/_, _%_, _≤_, _<_}
 use native.Mathlib.Omega.{arith}
 use native.Mathlib.Nat.{le-of-suc-le-suc, not-suc-le-zero}
 use lib.Dec.{eqb, leb}
 use lib.ListN.{length, getD}
 use borrow.Author.Tests.{ltb-true, leb-true, not-true, lt-ltb}
 use Rattle.laws.specs.Choice.{choose}
-use Rattle.laws.proofs.Test.{and-left, and-right}
-use Rattle.runs.specs.Zeros.{zeros}
-use Rattle.card.specs.Slot.{recipe, segment, kind, target, rest, pairOf, within, empty, keepsRules, legal}
+use Rattle.laws.proofs.Test.{and-left, and-right, fails}
+use Rattle.card.specs.Slot.{recipe, segment, pairOf, within, empty, keepsRules, legal}
 use Rattle.card.specs.Card.{slots, every, some, pairs, noneTwice, good}
 use Rattle.card.specs.Find.{place, named, found, findPart, findAt}
-use Rattle.card.specs.code.Again.{again}
-use Rattle.card.proofs.Twice.{some-place, twice-cons}
-use Rattle.card_laws.proofs.Search.{every-at, place-true, place-least}
-use Rattle.card_laws.proofs.Pairs.{named-pair, named-not-empty}
+use Rattle.card.proofs.Named.{named-pair, named-not-empty}
+use Rattle.card.proofs.Twice.{some-place, every-at, again, twice-cons}
+use Rattle.card_laws.proofs.Search.{place-true, place-least}
 
 -- ---- a good card
 module _ (card : List ℕ) (g : good card ≡ true) where
   before-pairs : (eqb (length card % 16) 0 && leb (length card) 4096 && every legal (slots card)) ≡ true
   unfolding good
   before-pairs = and-left (eqb (length card % 16) 0 && leb (length card) 4096 && every legal (slots card)) (noneTwice (pairs (slots card))) g
+
+  pub few-slots : length card / 16 ≤ 256
+  few-slots =
+      let long = and-left (eqb (length card % 16) 0 && leb (length card) 4096) (every legal (slots card)) before-pairs in
+      let h = leb-true (length card) 4096 (and-right (eqb (length card % 16) 0) (leb (length card) 4096) long) in
+      omega arith
 
   pub every-legal : every legal (slots card) ≡ true
   every-legal = and-right (eqb (length card % 16) 0 && leb (length card) 4096) (every legal (slots card)) before-pairs
@@ -33,6 +37,9 @@ module _ (card : List ℕ) (g : good card ≡ true) where
   none-twice = and-right (eqb (length card % 16) 0 && leb (length card) 4096 && every legal (slots card)) (noneTwice (pairs (slots card))) g
 
 -- ---- what is found
+within-range : (low high n : ℕ) → within low high n ≡ true → (low ≤ n) × (n ≤ high)
+within-range low high n e = (leb-true low n (and-left (leb low n) _ e), leb-true n high (and-right (leb low n) _ e))
+
 module _ (card : List ℕ) (p : ℕ × ℕ) (e : found card p ≡ true) where
   found-good : good card ≡ true
   unfolding found
@@ -44,7 +51,7 @@ module _ (card : List ℕ) (p : ℕ × ℕ) (e : found card p ≡ true) where
       ltb-true (place (named p) (slots card)) (length (slots card))
       (sym (some-place (named p) (slots card)) ∙ and-right (good card) (some (named p) (slots card)) e)
 
-  part-is : findPart card p ≡ getD (slots card) (place (named p) (slots card)) []
+  pub part-is : findPart card p ≡ getD (slots card) (place (named p) (slots card)) []
   unfolding findPart
   part-is = rw e
 
@@ -66,23 +73,24 @@ module _ (card : List ℕ) (p : ℕ × ℕ) (e : found card p ≡ true) where
       ∙ ap legal part-is
       ∙ every-at legal (slots card) (place (named p) (slots card)) (every-legal card found-good) found-inside
 
-  found-recipe : 1 ≤ p .0
+  in-range : (within 1 65535 (recipe (findPart card p)) && within 1 32 (segment (findPart card p))) ≡ true
   unfolding keepsRules
+  in-range = and-left _ _ (and-left _ _ (and-left _ _ found-keeps-rules))
+
+  -- its numbers are in their ranges
+  pub found-recipe : (1 ≤ p .0) × (p .0 ≤ 65535)
   found-recipe =
-      let s = findPart card p in
-      let three = and-left (within 1 65535 (recipe s) && within 1 32 (segment s) && within 1 3 (kind s) && leb (target s) 13500) (zeros (rest s)) found-keeps-rules in
-      let two = and-left (within 1 65535 (recipe s) && within 1 32 (segment s) && within 1 3 (kind s)) (leb (target s) 13500) three in
-      let one = and-left (within 1 65535 (recipe s) && within 1 32 (segment s)) (within 1 3 (kind s)) two in
-      let in-range = and-left (within 1 65535 (recipe s)) (within 1 32 (segment s)) one in
-      subst (λ (n : ℕ). 1 ≤ n) (ap (λ (x : ℕ × ℕ). x .0) found-pair) (leb-true 1 (recipe s) (and-left (leb 1 (recipe s)) (leb (recipe s) 65535) in-range))
+      subst (λ (q : ℕ × ℕ). (1 ≤ q .0) × (q .0 ≤ 65535)) found-pair
+      (within-range 1 65535 (recipe (findPart card p)) (and-left _ _ in-range))
+
+  pub found-segment : (1 ≤ p .1) × (p .1 ≤ 32)
+  found-segment =
+      subst (λ (q : ℕ × ℕ). (1 ≤ q .1) × (q .1 ≤ 32)) found-pair
+      (within-range 1 32 (segment (findPart card p)) (and-right (within 1 65535 (recipe (findPart card p))) _ in-range))
 
 -- nothing is found under recipe 0
 pub recipe-0 : (card : List ℕ) (g : ℕ) → found card (0, g) ≡ false
-recipe-0 card g = by-test (found card (0, g)) refl
-  where
-    by-test : (b : Bool) → found card (0, g) ≡ b → b ≡ false
-    by-test true e = absurd (not-suc-le-zero (found-recipe card (0, g) e))
-    by-test false e = refl
+recipe-0 card g = fails (found card (0, g)) (λ e. not-suc-le-zero (found-recipe card (0, g) e .0))
 
 pub recipe-0-part : (card : List ℕ) (g : ℕ) → findPart card (0, g) ≡ []
 unfolding findPart
@@ -120,7 +128,7 @@ module _ (card : List ℕ) (p : ℕ × ℕ) (i : ℕ) (g : good card ≡ true) (
   pub only-place : place (named p) (slots card) ≡ i
   only-place = once-at p (slots card) i (none-twice card g) h n
 
-  only-found : found card p ≡ true
+  pub only-found : found card p ≡ true
   unfolding found
   only-found = rw (g, some-place (named p) (slots card), only-place) (lt-ltb i (length (slots card)) h)
 

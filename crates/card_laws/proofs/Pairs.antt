@@ -1,59 +1,14 @@
--- A slot by its pair, and the pairs on a card where one slot is set anew.
+-- The pairs on a card where one slot is set anew.
 use mathlib.Core.Path.{_≡_, refl, sym, ap, ap₂, _∙_}
-use mathlib.Core.Bool.{Bool, true, false, not, _&&_, _||_, and-false, true≢false}
+use mathlib.Core.Bool.{Bool, true, false, not, _&&_, _||_, true≢false}
 use mathlib.Core.List.{List, [], _∷_, _++_, map}
 use Prim.Native.Nat.{ℕ, suc, _<_}
-use lib.Dec.{eqb}
 use lib.ListN.{length, getD, take, drop, set}
 use lib.Seq.{split-at, set-split}
-use borrow.Author.Tests.{eq-eqb, eqb-true, not-true}
 use Rattle.laws.specs.Choice.{choose}
-use Rattle.laws.proofs.Test.{and-left, and-right}
 use Rattle.card.specs.Slot.{empty, pairOf}
 use Rattle.card.specs.Card.{some, samePair, filled, pairs, noneTwice}
-use Rattle.card.specs.Find.{named}
-use Rattle.card.proofs.Rules.{named-filled}
-
--- ---- two pairs
-same-pair : (p q : ℕ × ℕ) → samePair p q ≡ true → p ≡ q
-same-pair p q e =
-    let a = eqb-true (p .0) (q .0) (and-left (eqb (p .0) (q .0)) (eqb (p .1) (q .1)) e) in
-    let b = eqb-true (p .1) (q .1) (and-right (eqb (p .0) (q .0)) (eqb (p .1) (q .1)) e) in
-    λ k. (a k, b k)
-
-pair-same : (p q : ℕ × ℕ) → p ≡ q → samePair p q ≡ true
-pair-same p q e = ap₂ _&&_ (eq-eqb (p .0) (q .0) (ap (λ (x : ℕ × ℕ). x .0) e)) (eq-eqb (p .1) (q .1) (ap (λ (x : ℕ × ℕ). x .1) e))
-
-other-pair : (p q : ℕ × ℕ) → (p ≡ q → ⊥) → samePair p q ≡ false
-other-pair p q n = by-test (samePair p q) refl
-  where
-    by-test : (b : Bool) → samePair p q ≡ b → b ≡ false
-    by-test true e = absurd (n (same-pair p q e))
-    by-test false e = refl
-
-pair-sym : (p q : ℕ × ℕ) → samePair p q ≡ false → samePair q p ≡ false
-pair-sym p q e = other-pair q p (λ z. true≢false (sym (pair-same p q (sym z)) ∙ e))
-
--- ---- a slot by its pair
-module _ (p : ℕ × ℕ) (s : List ℕ) where
-  pub named-pair : named p s ≡ true → pairOf s ≡ p
-  unfolding named
-  named-pair e = sym (same-pair p (pairOf s) (and-left (samePair p (pairOf s)) (not (empty s)) e))
-
-  pub named-not-empty : named p s ≡ true → empty s ≡ false
-  unfolding named
-  named-not-empty e = not-true (empty s) (and-right (samePair p (pairOf s)) (not (empty s)) e)
-
-  pub named-other : (pairOf s ≡ p → ⊥) → named p s ≡ false
-  unfolding named
-  named-other n = ap (λ (b : Bool). b && not (empty s)) (other-pair p (pairOf s) (λ e. n (sym e)))
-
-  pub named-empty : empty s ≡ true → named p s ≡ false
-  unfolding named
-  named-empty e = rw e (and-false (samePair p (pairOf s)))
-
-pub named-self : (s : List ℕ) → empty s ≡ false → named (pairOf s) s ≡ true
-named-self s e = sym (named-filled (pairOf s) s refl refl) ∙ ap not e
+use Rattle.card.proofs.Named.{pair-sym}
 
 -- ---- the pairs of slots in a row
 pairs-append : (a b : List (List ℕ)) → pairs (a ++ b) ≡ pairs a ++ pairs b

@@ -19,9 +19,10 @@ use Rattle.card.specs.Put.{namesake, goesTo, nowhere, putAnswer, written, putCa
 use Rattle.card.proofs.Rules.{record-16}
 use Rattle.card.proofs.Slots.{slots-length}
 use Rattle.card.proofs.Twice.{some-place, some-named}
+use Rattle.card.proofs.Named.{named-pair, named-not-empty, named-other, named-empty, named-self}
 use Rattle.card.proofs.Answers.{nowhere-at}
 use Rattle.card_laws.proofs.Search.{every-set, place-true, place-set, place-other}
-use Rattle.card_laws.proofs.Pairs.{named-pair, named-not-empty, named-other, named-empty, named-self, twice-namesake, twice-empty}
+use Rattle.card_laws.proofs.Pairs.{twice-namesake, twice-empty}
 use Rattle.card_laws.proofs.Written.{written-length, slots-written, written-twice}
 use Rattle.card_laws.proofs.Find.{every-legal, found-inside}
 

@@ -13,11 +13,6 @@ use Rattle.card.specs.Find.{place}
 
 module _ (t : List ℕ → Bool) where
   -- ---- of every slot
-  pub every-at : (ss : List (List ℕ)) (i : ℕ) → every t ss ≡ true → i < length ss → t (getD ss i []) ≡ true
-  every-at [] i e h = absurd (not-suc-le-zero h)
-  every-at (s ∷ ss) zero e h = and-left (t s) (every t ss) e
-  every-at (s ∷ ss) (suc i) e h = every-at ss i (and-right (t s) (every t ss) e) (le-of-suc-le-suc h)
-
   pub every-set : (ss : List (List ℕ)) (i : ℕ) (r : List ℕ) → every t ss ≡ true → t r ≡ true → every t (set ss i r) ≡ true
   every-set [] i r e f = refl
   every-set (s ∷ ss) zero r e f = ap₂ _&&_ f (and-right (t s) (every t ss) e)

@@ -1,6 +1,6 @@
 -- Words of 32 bits and their four bytes, the highest first: each way undoes the other, on lists of any length.
 use mathlib.Core.Path.{_≡_, refl, sym, ap, ap₂, _∙_}
-use mathlib.Core.List.{List, [], _∷_}
+use mathlib.Core.List.{List, [], _∷_, _++_}
 use Prim.Native.Nat.{ℕ, zero, suc, _+_, _*_, _/_, _%_, _^_}
 use native.Mathlib.Omega.{arith}
 use lib.Bits.{bitXor, xor-block}
@@ -100,15 +100,18 @@ bytesOf-wordsOf n xs h = go n xs (h .long) (words-each 8 (n * 4) xs h)
 pub wordsOf-words : (n : ℕ) (xs : List ℕ) → Words 8 xs → Each (Word 32) 0 n (wordsOf n xs)
 wordsOf-words n xs h = each-tab (Word 32) 0 n (wordAt xs) (λ j l. wordAt-lt xs j h)
 
-pub bytesOf-bytes : (n : ℕ) (ws : List ℕ) → Each (Word 32) 0 n ws → Bytes (n * 4) (bytesOf ws)
-bytesOf-bytes n ws h = each-words 8 (n * 4) (bytesOf ws) (long n ws (h .long)) (small ws (words-each 32 n ws h))
-  where
-    long : (m : ℕ) (l : List ℕ) → length l ≡ m → length (bytesOf l) ≡ m * 4
-    long zero [] e = refl
-    long (suc m) [] e = absurd (omega (arith, e))
-    long zero (w ∷ l) e = absurd (omega (arith, e))
-    long (suc m) (w ∷ l) e = let f : length (bytesOf l) ≡ m * 4 = long m l (omega (arith, e)) in omega arith
+pub length-bytesOf : (ws : List ℕ) → length (bytesOf ws) ≡ length ws * 4
+length-bytesOf [] = refl
+length-bytesOf (w ∷ ws) = let e = length-bytesOf ws in omega arith
 
+pub bytesOf-append : (a b : List ℕ) → bytesOf (a ++ b) ≡ bytesOf a ++ bytesOf b
+bytesOf-append [] b = refl
+bytesOf-append (x ∷ a) b = ap (λ (l : List ℕ). bytesOf (x ∷ []) ++ l) (bytesOf-append a b)
+
+pub bytesOf-bytes : (n : ℕ) (ws : List ℕ) → Each (Word 32) 0 n ws → Bytes (n * 4) (bytesOf ws)
+bytesOf-bytes n ws h =
+    each-words 8 (n * 4) (bytesOf ws) (length-bytesOf ws ∙ ap (λ (m : ℕ). m * 4) (h .long)) (small ws (words-each 32 n ws h))
+  where
     small : (l : List ℕ) → Words 32 l → Words 8 (bytesOf l)
     small [] w = tt
     small (x ∷ l) w = (byte-high x (w .0), (byte-part (x / 2 ^ 16), (byte-part (x / 2 ^ 8), (byte-part x, small l (w .1)))))

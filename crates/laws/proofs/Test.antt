@@ -25,6 +25,10 @@ pub and-right : (a b : Bool) → (a && b) ≡ true → b ≡ true
 and-right true b e = e
 and-right false b e = absurd (false≢true e)
 
+pub fails : (b : Bool) → (b ≡ true → ⊥) → b ≡ false
+fails true n = absurd (n refl)
+fails false n = refl
+
 -- two lists, place by place
 abbrev pub zipTest : {A : Type 0} → (A → A → Bool) → List A → List A → Bool
 zipTest t [] [] = true
