@@ -64,3 +64,6 @@ lay-down-clear s r = clear ((s, refusal.badState) ∷ (r, refusal.noRoom) ∷ []
 
 pub take-up-clear : (s r o : Bool) → refusal.takeUpOrder s r o ≡ refusal.done → Clear (s ∷ r ∷ o ∷ [])
 take-up-clear s r o = clear ((s, refusal.badSchedule) ∷ (r, refusal.badStreamRecord) ∷ (o, refusal.otherSchedule) ∷ []) (refl, (refl, (refl, tt)))
+
+pub compare-clear : (a b r : Bool) → refusal.compareOrder a b r ≡ refusal.done → Clear (a ∷ b ∷ r ∷ [])
+compare-clear a b r = clear ((a, refusal.badCard) ∷ (b, refusal.badCard) ∷ (r, refusal.noRoom) ∷ []) (refl, (refl, (refl, tt)))

@@ -1,4 +1,4 @@
--- The refusals: 01, 'Refusal numbers', and 02, requests 1, 3 and 5. Their numbers, and the order of each call, in which the first that applies is given; 0 is done.
+-- The refusals: 01, 'Refusal numbers', and 02, requests 1, 3, 5 and 6. Their numbers, and the order of each call, in which the first that applies is given; 0 is done.
 use mathlib.Core.Bool.{Bool}
 use mathlib.Core.List.{List, [], _∷_}
 use Prim.Native.Nat.{ℕ}
@@ -100,3 +100,6 @@ layDownOrder s r = first ((s, badState) ∷ (r, noRoom) ∷ [])
 
 abbrev pub takeUpOrder : (schedule «record» other : Bool) → ℕ
 takeUpOrder s r o = first ((s, badSchedule) ∷ (r, badStreamRecord) ∷ (o, otherSchedule) ∷ [])
+
+abbrev pub compareOrder : (one two room : Bool) → ℕ
+compareOrder a b r = first ((a, badCard) ∷ (b, badCard) ∷ (r, noRoom) ∷ [])

@@ -1,5 +1,6 @@
 // The refusals of 01's table, and of later requests, by name: the one place where a number stands in code. And for each call the first that applies.
 pub mod block;
+pub mod compare;
 pub mod entry;
 pub mod finish;
 pub mod lay_down;

@@ -1,0 +1,12 @@
+pub mod Each
+pub mod AllPairs
+pub mod Exact
+pub mod Order
+pub mod Records
+pub mod Same
+pub mod Exchanged
+pub mod Counted
+pub mod Rearranged
+pub mod Putting
+pub mod Bounds
+pub mod Examples
