@@ -1,5 +1,5 @@
-//! The second program: document 01 and requests 1 to 3 and 5 of document 02 once more,
-//! by another road than a fast program would take, so that its answers can be held
+//! The second program: document 01 and requests 1 to 3, 5 and 6 of document 02 once
+//! more, by another road than a fast program would take, so that its answers can be held
 //! against those of the product. Request 4 moves no answer.
 
 pub mod bytes;
@@ -7,6 +7,7 @@ pub mod card;
 pub mod cbc;
 pub mod cipher;
 pub mod cmac;
+pub mod compare;
 pub mod cuts;
 pub mod e2;
 pub mod edges;

@@ -17,6 +17,7 @@ const USAGE: &str = "usage: second replay DIR [blocks]
        second edges seals
        second edges records
        second edges cuts
+       second edges compare
        second cuts PROGRAM [WORD..]";
 
 fn main() -> ExitCode {
@@ -33,6 +34,7 @@ fn main() -> ExitCode {
         ["edges", "seals"] => write_out(edges::seals().as_bytes()),
         ["edges", "records"] => write_out(edges::records().as_bytes()),
         ["edges", "cuts"] => write_out(edges::cuts().as_bytes()),
+        ["edges", "compare"] => write_out(edges::compare().as_bytes()),
         ["cuts", program, ref words @ ..] => cut(program, words),
         _ => {
             eprintln!("{USAGE}");

@@ -40,6 +40,13 @@ impl Random {
         (0..length).map(|_| self.byte()).collect()
     }
 
+    /// Each order of the list is as likely as any other.
+    pub fn shuffle<T>(&mut self, list: &mut [T]) {
+        for place in 1..list.len() {
+            list.swap(place, self.below(place + 1));
+        }
+    }
+
     pub fn one_of<T: Copy>(&mut self, list: &[T]) -> T {
         list[self.below(list.len())]
     }

@@ -3,9 +3,9 @@
 //! the edge cases of the ciphers.
 //! Follows document 02, request 2, and the page on replay.
 
-mod old_parts;
+mod digest;
 
-use old_parts::{digest, old_part};
+use digest::{digest, old_part};
 use second::bytes::part;
 use second::edges::ciphers;
 use second::replay::call::Call;

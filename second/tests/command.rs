@@ -100,6 +100,7 @@ fn edges_prints_the_edge_cases() {
         ("seals", edges::seals()),
         ("records", edges::records()),
         ("cuts", edges::cuts()),
+        ("compare", edges::compare()),
     ] {
         let output = second(&["edges", word]);
         assert!(output.status.success());
@@ -130,6 +131,9 @@ fn anything_else_is_answered_with_the_usage() {
         &["edges", "records", "3"],
         &["edges", "cuts", "3"],
         &["replay", "here", "records"],
+        &["edges", "compares"],
+        &["edges", "compare", "3"],
+        &["replay", "here", "compares"],
         &["cuts"],
         &["help"],
     ] {

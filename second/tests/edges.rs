@@ -1,8 +1,8 @@
-//! The edge cases of recipe cards as a person would write them down, those of the
-//! ciphers and of records, and the cuts, with every block computed by the C entry and the
-//! definition of CBC alone, and those of seals with every seal computed by the one block
-//! call and the steps of CMAC.
-//! Follows document 02, requests 1 to 3 and 5, document 01, 'Marked cases', its last paragraph,
+//! The edge cases of recipe cards and of two compared as a person would write them down,
+//! those of the ciphers and of records, and the cuts, with every block computed by the C
+//! entry and the definition of CBC alone, and those of seals with every seal computed by
+//! the one block call and the steps of CMAC.
+//! Follows document 02, requests 1 to 3, 5 and 6, document 01, 'Marked cases', its last paragraph,
 //! and the definitions of CBC in NIST SP 800-38A and of CMAC in SP 800-38B.
 
 mod cmac_by_bytes;
@@ -10,7 +10,7 @@ mod cmac_by_bytes;
 use cmac_by_bytes::cmac;
 use second::bytes::{part, xor, Block};
 use second::cipher::{encipher_block, set_up};
-use second::edges::{cards, ciphers, cuts, records, seals};
+use second::edges::{cards, ciphers, compare, cuts, records, seals};
 use second::entry::entry;
 
 const SAID_OF_CARDS: &str = "\
@@ -383,4 +383,100 @@ fn the_cuts_at_every_byte_are_as_said() {
         }
     }
     is_as_said(&cuts(), &said);
+}
+
+/// What is said of two cards: `<3>` stands for the list of eight recipes from 1 on with
+/// every segment and mark 3, `<1, 2>` for that of sixteen, the first eight with mark 1,
+/// the others with mark 2.
+const SAID_OF_COMPARE: &str = "\
+no bytes against no bytes, in 0 of room: answer 0, writes 0
+  behind it: as it was
+the example, in 12 of room: answer 0, writes 12
+  00010101
+  00010203
+  00020102
+  behind it: as it was
+the example with more room, in 15 of room: answer 0, writes 12
+  00010101
+  00010203
+  00020102
+  behind it: as it was
+the example in room one byte short, in 11 of room: answer 9, writes 0
+  behind it: as it was
+the example, the cards exchanged, in 12 of room: answer 0, writes 12
+  00010102
+  00010203
+  00020101
+  behind it: as it was
+the example in other orders, with empty slots, in 12 of room: answer 0, writes 12
+  00010101
+  00010203
+  00020102
+  behind it: as it was
+the same card, in 0 of room: answer 0, writes 0
+  behind it: as it was
+the same card shuffled, in 0 of room: answer 0, writes 0
+  behind it: as it was
+256 pairs with other contents, in 1024 of room: answer 0, writes 1024
+<3>  behind it: as it was
+256 pairs with other contents in room one byte short, in 1023 of room: answer 9, writes 0
+  behind it: as it was
+no pair in common, in 2048 of room: answer 0, writes 2048
+<1, 2>  behind it: as it was
+no pair in common in room one byte short, in 2047 of room: answer 9, writes 0
+  behind it: as it was
+an empty slot against no bytes, in 0 of room: answer 0, writes 0
+  behind it: as it was
+one record against no bytes, in 4 of room: answer 0, writes 4
+  00010101
+  behind it: as it was
+one record against no bytes in no room, in 0 of room: answer 9, writes 0
+  behind it: as it was
+no bytes against one record, in 4 of room: answer 0, writes 4
+  00010102
+  behind it: as it was
+another kind, in 4 of room: answer 0, writes 4
+  00010103
+  behind it: as it was
+another rate, in 4 of room: answer 0, writes 4
+  00010103
+  behind it: as it was
+another hold, in 4 of room: answer 0, writes 4
+  00010103
+  behind it: as it was
+by recipe, then segment, in 20 of room: answer 0, writes 20
+  00010201
+  00012001
+  00ff0301
+  01000101
+  ffff2001
+  behind it: as it was
+the first card bad, in 4 of room: answer 12, writes 0
+  behind it: as it was
+the second card bad, in 12 of room: answer 12, writes 0
+  behind it: as it was
+the second card bad, no room, in 0 of room: answer 12, writes 0
+  behind it: as it was
+both cards bad, in 2048 of room: answer 12, writes 0
+  behind it: as it was
+";
+
+/// Eight recipes from this one on with every segment.
+fn said_of_pairs(first_recipe: u16, mark: u8) -> String {
+    let mut lines = String::new();
+    for recipe in first_recipe..first_recipe + 8 {
+        for segment in 1..=32 {
+            lines += &format!("  {recipe:04x}{segment:02x}{mark:02x}\n");
+        }
+    }
+    lines
+}
+
+#[test]
+fn the_edge_cases_of_two_cards_compared_are_as_said() {
+    let all_apart = said_of_pairs(1, 1) + &said_of_pairs(9, 2);
+    let said = SAID_OF_COMPARE
+        .replace("<3>", &said_of_pairs(1, 3))
+        .replace("<1, 2>", &all_apart);
+    is_as_said(&compare(), &said);
 }

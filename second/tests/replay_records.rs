@@ -111,7 +111,7 @@ fn made() -> Vec<Made> {
     let (mut kept, mut made) = (Kept::ZERO, Vec::new());
     for call in calls(&script(Extent::Whole)) {
         let back = kept.make(call.clone());
-        if call.number() >= 0x12 {
+        if (0x12..=0x13).contains(&call.number()) {
             made.push(Made {
                 call: call.clone(),
                 schedule: schedule.clone(),

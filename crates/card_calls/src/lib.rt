@@ -42,3 +42,23 @@ pub fn put() -> bool {
     writing::front(&card, n);
     true
 }
+
+pub fn compare() -> bool {
+    let mut first = [0u8; 8192];
+    let mut second = [0u8; 8192];
+    let mut out = [0u8; 8192];
+    let a = reading::string(&mut first);
+    let b = reading::string(&mut second);
+    let o = reading::buffer(&mut out);
+    let n = a.len;
+    let m = b.len;
+    let room = o.len;
+    if !(a.ok & b.ok & o.ok) {
+        return false;
+    }
+    let compared = card_compare::compare(&first[..n], &second[..m], &mut out[..room]);
+    writing::byte(compared.answer);
+    writing::eight(compared.written);
+    writing::front(&out, room);
+    true
+}

@@ -88,6 +88,7 @@ pub fn call(code: u64, kept: Kept) -> Turn {
         17 => with_seal(seal_calls::keep(), kept),
         18 => same(stream_calls::lay_down(kept.stream), kept),
         19 => with_stream(stream_calls::take_up(kept.schedule, kept.stream), kept),
+        20 => same(card_calls::compare(), kept),
         _ => same(false, kept),
     }
 }

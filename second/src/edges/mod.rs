@@ -2,12 +2,14 @@
 
 mod cards;
 mod ciphers;
+mod compare;
 mod cuts;
 mod records;
 mod seals;
 
 pub use cards::{cards, full, standard};
 pub use ciphers::ciphers;
+pub use compare::compare;
 pub use cuts::cuts;
 pub use records::records;
 pub use seals::seals;

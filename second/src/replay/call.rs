@@ -78,6 +78,10 @@ pub enum Call {
     TakeUp {
         record: Vec<u8>,
     },
+    Compare {
+        cards: [Vec<u8>; 2],
+        buffer: Buffer,
+    },
 }
 
 impl Call {
@@ -102,6 +106,7 @@ impl Call {
             Call::KeepSeal(_) => 0x11,
             Call::LayDown { .. } => 0x12,
             Call::TakeUp { .. } => 0x13,
+            Call::Compare { .. } => 0x14,
         }
     }
 
@@ -128,7 +133,7 @@ impl Call {
                 room(*buffer),
             ],
             Call::KeepSchedule(bytes) => vec![bytes.to_vec()],
-            Call::KeepStream(bytes) => vec![bytes.to_vec()],
+            Call::KeepStream(bytes) | Call::KeepSeal(bytes) => vec![bytes.to_vec()],
             Call::IsGood { card } => vec![string(card)],
             Call::Find {
                 card,
@@ -139,8 +144,8 @@ impl Call {
             Call::PieceOfSeal { piece } => vec![string(piece)],
             Call::WriteSeal { buffer } | Call::LayDown { buffer } => vec![room(*buffer)],
             Call::CheckSeal { given } => vec![string(given)],
-            Call::KeepSeal(bytes) => vec![bytes.to_vec()],
             Call::TakeUp { record } => vec![string(record)],
+            Call::Compare { cards, buffer } => vec![strings(cards), room(*buffer)],
         };
         [vec![self.number()], rest.concat()].concat()
     }
@@ -157,6 +162,10 @@ fn four(length: usize) -> Vec<u8> {
 /// A length in 4 bytes, then so many bytes.
 pub fn string(bytes: &[u8]) -> Vec<u8> {
     [&four(bytes.len()), bytes].concat()
+}
+
+fn strings(list: &[Vec<u8>]) -> Vec<u8> {
+    list.iter().flat_map(|bytes| string(bytes)).collect()
 }
 
 fn room(buffer: Buffer) -> Vec<u8> {

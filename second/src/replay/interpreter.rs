@@ -7,6 +7,7 @@ use super::record::{schedule_bytes, schedule_from, seal_bytes, seal_from};
 use super::record::{stream_bytes, stream_from};
 use crate::card::{find, good, put, Put};
 use crate::cipher::{decipher_block, encipher_block, set_up, OneBlock, Schedule};
+use crate::compare::compare;
 use crate::entry::entry;
 use crate::reading::{lay_down, take_up, LaidDown};
 use crate::seal::{self, Seal};
@@ -81,6 +82,7 @@ impl Kept {
             Call::KeepSeal(bytes) => keep(&mut self.seal, seal_from(&bytes)),
             Call::LayDown { buffer } => laid_down(lay_down(&self.stream, &buffer.bytes())),
             Call::TakeUp { record } => self.next(take_up(&self.schedule, &record)),
+            Call::Compare { cards, buffer } => compared(&cards, &buffer.bytes()),
         }
     }
 
@@ -142,4 +144,10 @@ fn laid_down(back: LaidDown) -> Vec<u8> {
 
 fn put_card(back: Put) -> Vec<u8> {
     [&[back.answer.number()], &back.card[..]].concat()
+}
+
+fn compared([first, second]: &[Vec<u8>; 2], out: &[u8]) -> Vec<u8> {
+    let back = compare(first, second, out);
+    let written = back.written.to_be_bytes();
+    [&[back.answer.number()], &written[..], &back.out].concat()
 }

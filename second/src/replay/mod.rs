@@ -6,6 +6,7 @@ mod blocks;
 pub mod call;
 mod cards;
 pub mod ciphers;
+mod compares;
 mod designers;
 mod entries;
 pub mod faults;
@@ -22,7 +23,7 @@ pub mod vectors;
 pub use interpreter::run;
 
 /// How much of the script is wanted: behind the blocks part stand streams, then cards,
-/// then request 2's, then seals, then records.
+/// then request 2's, then seals, then records, then compares.
 #[derive(Clone, Copy, Debug, PartialEq, Eq)]
 pub enum Extent {
     Blocks,
@@ -39,6 +40,7 @@ pub fn script(extent: Extent) -> Vec<u8> {
         designers::write(&mut script);
         seals::write(&mut script);
         records::write(&mut script);
+        compares::write(&mut script);
     }
     script.bytes
 }

@@ -84,6 +84,10 @@ impl<'a> Reader<'a> {
             0x13 => Call::TakeUp {
                 record: self.string()?,
             },
+            0x14 => Call::Compare {
+                cards: [self.string()?, self.string()?],
+                buffer: self.buffer()?,
+            },
             _ => return None,
         })
     }

@@ -127,6 +127,11 @@ impl Script {
         let record = record.to_vec();
         self.call(Call::TakeUp { record });
     }
+
+    pub fn compare(&mut self, first: &[u8], second: &[u8], buffer: Buffer) {
+        let cards = [first.to_vec(), second.to_vec()];
+        self.call(Call::Compare { cards, buffer });
+    }
 }
 
 pub fn room(room: usize, filler: u8) -> Buffer {

@@ -67,7 +67,7 @@ fn any_of_few(random: &mut Random) -> Record {
     }
 }
 
-fn any_record(random: &mut Random) -> Record {
+pub fn any_record(random: &mut Random) -> Record {
     Record {
         recipe: 1 + random.below(65_535) as u16,
         segment: 1 + random.below(32) as u8,
@@ -91,7 +91,7 @@ fn any_card(random: &mut Random, number: usize, any: fn(&mut Random) -> Record) 
 }
 
 /// The bytes with one place changed, or cut off, or longer; more often as they are.
-fn damaged(random: &mut Random, mut bytes: Vec<u8>) -> Vec<u8> {
+pub fn damaged(random: &mut Random, mut bytes: Vec<u8>) -> Vec<u8> {
     let length = bytes.len();
     let place = random.below(length.max(1));
     match random.below(14) {

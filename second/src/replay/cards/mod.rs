@@ -1,8 +1,8 @@
 //! The cards part of the script: good, find and put, on good cards and bad ones.
 //! Follows document 02, request 1.
 
-mod any;
-mod fields;
+pub mod any;
+pub mod fields;
 mod finds;
 mod pairs;
 mod puts;
@@ -23,12 +23,12 @@ pub fn write(script: &mut Script) {
     any::write(script);
 }
 
-fn s(recipe: u16, segment: u8) -> Block {
+pub fn s(recipe: u16, segment: u8) -> Block {
     standard(recipe, segment).bytes()
 }
 
 /// The same pair with every other number changed.
-fn other(recipe: u16, segment: u8) -> Block {
+pub fn other(recipe: u16, segment: u8) -> Block {
     let record = Record {
         kind: 3,
         target: 255,
