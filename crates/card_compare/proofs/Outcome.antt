@@ -1,11 +1,14 @@
--- The outcome of a comparison: refused or written.
+-- The outcome of a comparison, refused or not.
 use mathlib.Core.Path.{_≡_, refl, sym, ap, ap₂, _∙_}
 use mathlib.Core.Bool.{Bool, true, false, not}
 use mathlib.Core.List.{List, [], _∷_, _++_}
 use Prim.Native.Nat.{ℕ, _*_, _≤_}
-use lib.Dec.{ltb}
-use lib.ListN.{length, drop}
-use borrow.Author.Tests.{eq-eqb, ne-eqb, ltb-false, not-false}
+use native.Mathlib.Omega.{arith}
+use lib.Dec.{eqb, ltb}
+use lib.ListN.{length, take, drop}
+use lib.Seq.{length-take-le}
+use borrow.Author.Tests.{eqb-true, ltb-false, not-false}
+use Rattle.laws.specs.Choice.{choose}
 use Rattle.laws.specs.Bytes.{bytesOf}
 use Rattle.laws.proofs.BigEndian.{length-bytesOf}
 use Rattle.refusals.specs.Refusals as refusal
@@ -14,11 +17,14 @@ use Rattle.card.specs.Card.{good}
 use Rattle.card_compare.specs.Compare.{differences}
 use Rattle.card_compare.specs.Promises.{compareAnswer, compareWritten, compareOut, Compares}
 
--- the cards are judged g and h, and `list` has the changes where both are good
-module _ (a b out list : List ℕ) {g h : Bool} (eg : g ≡ good a) (eh : h ≡ good b) (el : g ≡ true → h ≡ true → bytesOf list ≡ differences a b)
-    {n no : ℕ} (long : length list ≡ n) (en : no ≡ refusal.compareOrder (not g) (not h) (ltb (length out) (n * 4))) where
+-- the cards are judged g and h, and the first n of `list` are the changes where both are good
+module _ (a b out list : List ℕ) {g h : Bool} (eg : g ≡ good a) (eh : h ≡ good b) {n no : ℕ} (long : n ≤ length list)
+    (el : g ≡ true → h ≡ true → bytesOf (take n list) ≡ differences a b) (en : no ≡ refusal.compareOrder (not g) (not h) (ltb (length out) (n * 4))) where
+  front-long : length (take n list) ≡ n
+  front-long = length-take-le n list long
+
   bytes-long : g ≡ true → h ≡ true → n * 4 ≡ length (differences a b)
-  bytes-long x y = ap (λ (m : ℕ). m * 4) (sym long) ∙ sym (length-bytesOf list) ∙ ap length (el x y)
+  bytes-long x y = ap (λ (m : ℕ). m * 4) (sym front-long) ∙ sym (length-bytesOf (take n list)) ∙ ap length (el x y)
 
   answered : no ≡ compareAnswer a b out
   unfolding compareAnswer
@@ -32,35 +38,38 @@ module _ (a b out list : List ℕ) {g h : Bool} (eg : g ≡ good a) (eh : h ≡ 
       by-good true x false y = rw (x, y)
       by-good false x t y = rw x
 
-  pub refused : (no ≡ refusal.done → ⊥) → Compares a b out no 0 out
-  unfolding compareWritten compareOut
-  refused z =
-      record {
-        answered = answered;
-        reported = rw (← answered, ne-eqb no refusal.done z);
-        left = rw (← answered, ne-eqb no refusal.done z);
-      }
+  clear : no ≡ refusal.done → Clear (not g ∷ not h ∷ ltb (length out) (n * 4) ∷ [])
+  clear z = compare-clear (not g) (not h) (ltb (length out) (n * 4)) (sym en ∙ z)
 
-  module _ (z : no ≡ refusal.done) where
-    clear : Clear (not g ∷ not h ∷ ltb (length out) (n * 4) ∷ [])
-    clear = compare-clear (not g) (not h) (ltb (length out) (n * 4)) (sym en ∙ z)
+  -- m of the changes are written
+  module _ {m : ℕ} (em : m ≡ choose (eqb no refusal.done) n 0) where
+    pub fits : m * 4 ≤ length out
+    fits = by-test (eqb no refusal.done) refl em
+      where
+        by-test : (t : Bool) → eqb no refusal.done ≡ t → m ≡ choose t n 0 → m * 4 ≤ length out
+        by-test true e f = let l = ltb-false (length out) (n * 4) (clear (eqb-true no refusal.done e) .1 .1 .0) in omega arith
+        by-test false e f = omega arith
 
-    pub fits : n * 4 ≤ length out
-    fits = ltb-false (length out) (n * 4) (clear .1 .1 .0)
-
-    is-list : bytesOf list ≡ differences a b
-    is-list = el (not-false g (clear .0)) (not-false h (clear .1 .0))
-
-    is-long : n * 4 ≡ length (differences a b)
-    is-long = bytes-long (not-false g (clear .0)) (not-false h (clear .1 .0))
-
-    pub listed : {out′ : List ℕ} → out′ ≡ bytesOf list ++ drop (length list * 4) out → Compares a b out no (n * 4) out′
+    pub outcome : {out′ : List ℕ} → out′ ≡ bytesOf (take m list) ++ drop (length (take m list) * 4) out → Compares a b out no (m * 4) out′
     unfolding compareWritten compareOut
-    listed e =
-        record {
-          answered = answered;
-          reported = rw (← answered, eq-eqb no refusal.done z) is-long;
-          left =
-              e ∙ ap₂ (λ (l : List ℕ) (m : ℕ). l ++ drop m out) is-list (ap (λ (m : ℕ). m * 4) long ∙ is-long)
-              ∙ rw (← answered, eq-eqb no refusal.done z);
-        }
+    outcome {out′} e = by-test (eqb no refusal.done) refl em
+      where
+        by-test : (t : Bool) → eqb no refusal.done ≡ t → m ≡ choose t n 0 → Compares a b out no (m * 4) out′
+        by-test true z f =
+            let c = clear (eqb-true no refusal.done z) in
+            let x = not-false g (c .0) in
+            let y = not-false h (c .1 .0) in
+            record {
+              answered = answered;
+              reported = rw (← answered, z) (ap (λ (k : ℕ). k * 4) f ∙ bytes-long x y);
+              left =
+                  e ∙ ap (λ (k : ℕ). bytesOf (take k list) ++ drop (length (take k list) * 4) out) f
+                  ∙ ap₂ (λ (l : List ℕ) (k : ℕ). l ++ drop k out) (el x y) (ap (λ (k : ℕ). k * 4) front-long ∙ bytes-long x y)
+                  ∙ rw (← answered, z);
+            }
+        by-test false z f =
+            record {
+              answered = answered;
+              reported = rw (← answered, z) (ap (λ (k : ℕ). k * 4) f);
+              left = e ∙ ap (λ (k : ℕ). bytesOf (take k list) ++ drop (length (take k list) * 4) out) f ∙ rw (← answered, z);
+            }

@@ -6,8 +6,11 @@ use card::Judged;
 ghost use mathlib.Core.Path.{_≡_};
 ghost use mathlib.Core.Bool.{true};
 ghost use Prim.Native.Nat.{_≤_};
+ghost use lib.Dec.{eqb};
 ghost use lib.ListN.{length, take};
+ghost use Rattle.laws.specs.Choice.{choose};
 ghost use Rattle.laws.specs.Bytes.{bytesOf};
+ghost use Rattle.refusals.specs.Refusals.{done};
 ghost use Rattle.card.specs.code.Order.{JudgesInOrder};
 ghost use Rattle.card_compare.specs.Compare.{differences};
 ghost use Rattle.card_compare.specs.Promises.{Compares};
@@ -44,6 +47,13 @@ fn changes(
     merge::changes(first, second, &a[0..n], &b[0..m], list)
 }
 
+// How many of n records are written: none where the call is refused.
+fn to_write(no: u8, n: usize) -> usize
+    ensures { λ r. ⌜ (r ≤ n) × (r ≡ choose (eqb no done) n 0) ⌝ }
+{
+    if no == refusals::DONE { n } else { 0 }
+}
+
 // The differences of two cards at the front of the output, which keeps its bytes where this is refused.
 pub fn compare(first: &[u8], second: &[u8], out: &mut [u8]) -> Compared
     ensures { λ r. ⌜ Compares (now (first .entry)) (now (second .entry)) (now (out .entry)) (r .answer) (r .written) (now (out .exit)) ⌝ }
@@ -55,15 +65,10 @@ pub fn compare(first: &[u8], second: &[u8], out: &mut [u8]) -> Compared
     let two = card::judge(second, &mut b);
     let n = changes(first, second, one, two, &a, &b, &mut list);
     let no = refusals::compare::first(!one.good, !two.good, out.len() < n * 4);
-    if no != refusals::DONE {
-        return Compared {
-            answer: no,
-            written: 0,
-        };
-    }
-    list::write(&list[0..n], out);
+    let w = to_write(no, n);
+    list::write(&list[0..w], out);
     Compared {
         answer: no,
-        written: n as u64 * 4,
+        written: w as u64 * 4,
     }
 }

@@ -1,13 +1,16 @@
 // The edge cases of recipe cards (02, request 1), run and shown: for each card whether it is good, and below it its finds and puts.
-mod records;
 mod show;
 
+use card_records::empty;
+use card_records::full;
+use card_records::record;
+use card_records::three;
 use edge_words::front;
-use records::empty;
-use records::full;
-use records::record;
-use records::standard;
-use records::three;
+
+// A hold at 1,200 degrees.
+fn standard(recipe: u16, segment: u8) -> [u8; 16] {
+    record(recipe, segment, 2, 12000, 600, 30)
+}
 
 fn whole(card: &[u8]) {
     show::card(b"256 full slots", card);
@@ -28,7 +31,7 @@ fn one_pair(name: &[u8], card: &[u8]) {
 fn lengths() {
     let no_bytes = [0u8; 0];
     one_pair(b"no bytes", &no_bytes);
-    let slots = full();
+    let slots = full(1, 3, 1000);
     whole(front(&slots, 4096));
     one_pair(b"4112 bytes", &slots);
     let slot = standard(1, 1);

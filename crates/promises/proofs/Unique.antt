@@ -7,6 +7,7 @@ use denote.Ref.{RefT, ptr, now}
 use Rattle.hex.specs.Read.{Read}
 use Rattle.hex.specs.declared.Reading.{Reading}
 use Rattle.card.specs.Promises.{Judges, Finds, Puts}
+use Rattle.card_compare.specs.Promises.{Compares}
 use Rattle.cipher.specs.Promises.{SetsUp, WorksBlock}
 use Rattle.cipher.specs.declared.Schedule.{Schedule}
 use Rattle.cipher.specs.declared.SetUp.{SetUp}
@@ -88,6 +89,9 @@ one-part card recipe segment p p′ h h′ =
 
 pub one-put : (card r : List ℕ) (n n′ : ℕ) (q q′ : List ℕ) → Puts card r n q → Puts card r n′ q′ → (n ≡ n′) × (q ≡ q′)
 one-put card r n n′ q q′ h h′ = (h .answered ∙ sym (h′ .answered), h .left ∙ sym (h′ .left))
+
+pub one-comparison : (a b out : List ℕ) (n n′ w w′ : ℕ) (q q′ : List ℕ) → Compares a b out n w q → Compares a b out n′ w′ q′ → (n ≡ n′) × (w ≡ w′) × (q ≡ q′)
+one-comparison a b out n n′ w w′ q q′ h h′ = (h .answered ∙ sym (h′ .answered), h .reported ∙ sym (h′ .reported), h .left ∙ sym (h′ .left))
 
 -- ---- what host/bench measures
 pub one-blocks-measured : (c d : ℕ) (key x o : List ℕ) (r r′ : ℕ) (q q′ : List ℕ)

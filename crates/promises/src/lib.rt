@@ -1,4 +1,5 @@
 // For each public call a thin caller that gets exactly its promise, so that a contract which promises less is refused here. docs/PROMISES.md is the index.
+use card_compare::Compared;
 use cipher::Schedule;
 use cipher::SetUp;
 use hex::Reading;
@@ -9,6 +10,7 @@ use stream::Started;
 use stream::Stream;
 ghost use Rattle.hex.specs.Read.{Read};
 ghost use Rattle.card.specs.Promises.{Judges, Finds, Puts};
+ghost use Rattle.card_compare.specs.Promises.{Compares};
 ghost use Rattle.cipher.specs.Promises.{SetsUp, EnciphersBlock, DeciphersBlock};
 ghost use Rattle.stream.specs.Promises.{Starts, Feeds, Finishes};
 ghost use Rattle.stream_record.specs.Promises.{LaysDown, TakesUp};
@@ -124,6 +126,12 @@ pub fn put_record(card: &mut [u8], record: &[u8]) -> u8
     ensures { λ r. ⌜ Puts (now (card .entry)) (now («record» .entry)) r (now (card .exit)) ⌝ }
 {
     card::put(card, record)
+}
+
+pub fn compare_cards(first: &[u8], second: &[u8], out: &mut [u8]) -> Compared
+    ensures { λ r. ⌜ Compares (now (first .entry)) (now (second .entry)) (now (out .entry)) (r .answer) (r .written) (now (out .exit)) ⌝ }
+{
+    card_compare::compare(first, second, out)
 }
 
 pub fn blocks_measured(

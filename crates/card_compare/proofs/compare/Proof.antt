@@ -5,16 +5,17 @@ use native.Mathlib.Omega.{arith}
 use lib.ListN.{length, take, drop}
 use lib.Seq.{length-take-le}
 use Rattle.laws.specs.Bytes.{bytesOf}
-use Rattle.card_compare.proofs.Outcome.{refused, fits, listed}
+use Rattle.card_compare.proofs.Outcome.{fits, outcome}
 use borrow.Author.Needs.{needs}
 use Rattle.card_compare.proofs.compare.Statement.{statement}
 use Rattle.card_compare.proofs.compare.Tie as tie
 
-front : (n : ℕ) (l : List ℕ) → take (n - 0) l ≡ take n l
-front n l = let z : n - 0 ≡ n = omega arith in ap (λ (m : ℕ). take m l) z
-
-long : (c : tie.After-list2) → length (take (c .before .changes .result) (c .before .changes .last .1 .1 .1 .1 .1 .1 .0)) ≡ c .before .changes .result
-long c = length-take-le (c .before .changes .result) (c .before .changes .last .1 .1 .1 .1 .1 .1 .0) (let n = c .before .changes .ensures .0 in let l = c .list2 .given in omega arith)
+-- the list has room for the changes
+room : (t : tie.After-to-write) → t .before .before .before .before .before .changes .result ≤ length (t .before .before .before .before .before .changes .last .1 .1 .1 .1 .1 .1 .0)
+room t =
+    let n = t .before .before .before .before .before .changes .ensures .0 in
+    let l = t .before .before .before .before .list2 .given in
+    omega arith
 
 slice-aggregate-judge : tie.Need-slice-aggregate-judge
 slice-aggregate-judge c = search needs
@@ -46,11 +47,8 @@ mul-first c = search needs
 first-requires : tie.Need-first-requires
 first-requires c κs = search needs
 
-returns : tie.Need-returns
-returns c =
-    let made = c .before .before .before .before .before in
-    let start = made .before .before .before .before .before .before .before .before .before .before .before .before .before in
-    refused (start .args .first .now) (start .args .second .now) (start .args .out .now) (take (made .changes .result) (made .changes .last .1 .1 .1 .1 .1 .1 .0)) (made .before .before .before .before .before .before .before .before .judge .ensures .answered) (made .before .before .before .before .before .judge2 .ensures .answered) (made .changes .ensures .1) (long (c .before .before .before .before)) (c .before .first .ensures) (c .if1 .taken)
+to-write-requires : tie.Need-to-write-requires
+to-write-requires c κs = search needs
 
 sub-write : tie.Need-sub-write
 sub-write c = search needs
@@ -59,33 +57,47 @@ part-write-start : tie.Need-part-write-start
 part-write-start c = search needs
 
 part-write-end : tie.Need-part-write-end
-part-write-end c = search needs
+part-write-end c =
+    let t = c .before in
+    let n = room t in
+    let w = t .to-write .ensures .0 in
+    omega arith
 
 write-requires : tie.Need-write-requires
 write-requires c κs =
-    let made = c .before .before .before .before .before .before .before .before in
-    let n = made .changes .result in
-    let list = made .changes .last .1 .1 .1 .1 .1 .1 .0 in
-    let l = long (c .before .before .before .before .before .before .before) in
-    let e = ap length (front n list) in
+    let t = c .before .before .before in
+    let made = t .before .before .before .before .before in
     let start = made .before .before .before .before .before .before .before .before .before .before .before .before .before in
-    let f = fits (start .args .first .now) (start .args .second .now) (start .args .out .now) (take n list) (made .before .before .before .before .before .before .before .before .judge .ensures .answered) (made .before .before .before .before .before .judge2 .ensures .answered) (made .changes .ensures .1) l (c .before .before .before .before .first .ensures) (c .before .before .before .if1 .left) in
-    subst (λ (m : ℕ). m * 4 ≤ length (start .args .out .now)) (sym (e ∙ l)) f
+    let w = t .to-write .ensures .0 in
+    let n = room t in
+    let z : t .to-write .result - 0 ≤ length (made .changes .last .1 .1 .1 .1 .1 .1 .0) = omega arith in
+    let e : length (take (t .to-write .result - 0) (made .changes .last .1 .1 .1 .1 .1 .1 .0)) ≡ t .to-write .result = length-take-le _ _ z ∙ omega arith in
+    subst (λ (m : ℕ). m * 4 ≤ length (start .args .out .now)) (sym e)
+    (fits (start .args .first .now) (start .args .second .now) (start .args .out .now) (made .changes .last .1 .1 .1 .1 .1 .1 .0)
+    (made .before .before .before .before .before .before .before .before .judge .ensures .answered) (made .before .before .before .before .before .judge2 .ensures .answered) (room t) (made .changes .ensures .1)
+    (t .before .first .ensures) (t .to-write .ensures .1))
 
-mul-t34 : tie.Need-mul-t34
-mul-t34 c = search needs
+mul-t35 : tie.Need-mul-t35
+mul-t35 c =
+    let t = c .before .before .before .before .before .before in
+    let n = t .before .before .before .before .before .changes .ensures .0 in
+    let w = t .to-write .ensures .0 in
+    omega arith
 
 same-length : tie.Need-same-length
 same-length c = search needs
 
-returns-2 : tie.Need-returns-2
-returns-2 c =
-    let made = c .before .before .before .before .before .before .before .before .before .before .before in
-    let n = made .changes .result in
-    let list = made .changes .last .1 .1 .1 .1 .1 .1 .0 in
+returns : tie.Need-returns
+returns c =
+    let t = c .before .before .before .before .before .before in
+    let made = t .before .before .before .before .before in
     let start = made .before .before .before .before .before .before .before .before .before .before .before .before .before in
-    listed (start .args .first .now) (start .args .second .now) (start .args .out .now) (take n list) (made .before .before .before .before .before .before .before .before .judge .ensures .answered) (made .before .before .before .before .before .judge2 .ensures .answered) (made .changes .ensures .1) (long (c .before .before .before .before .before .before .before .before .before .before)) (c .before .before .before .before .before .before .before .first .ensures) (c .before .before .before .before .before .before .if1 .left)
-    (c .before .before .write .ensures ∙ ap (λ (l : List ℕ). bytesOf l ++ drop (length l * 4) (start .args .out .now)) (front n list))
+    let z : t .to-write .result - 0 ≡ t .to-write .result = omega arith in
+    outcome (start .args .first .now) (start .args .second .now) (start .args .out .now) (made .changes .last .1 .1 .1 .1 .1 .1 .0)
+    (made .before .before .before .before .before .before .before .before .judge .ensures .answered) (made .before .before .before .before .before .judge2 .ensures .answered) (room t) (made .changes .ensures .1)
+    (t .before .first .ensures) (t .to-write .ensures .1)
+    (c .before .before .write .ensures
+    ∙ ap (λ (m : ℕ). bytesOf (take m (made .changes .last .1 .1 .1 .1 .1 .1 .0)) ++ drop (length (take m (made .changes .last .1 .1 .1 .1 .1 .1 .0)) * 4) (start .args .out .now)) z)
 
 pub compare-spec : {M : Type 1} → statement M
 compare-spec =
@@ -101,11 +113,11 @@ compare-spec =
     changes-requires
     mul-first
     first-requires
-    returns
+    to-write-requires
     sub-write
     part-write-start
     part-write-end
     write-requires
-    mul-t34
+    mul-t35
     same-length
-    returns-2)
+    returns)

@@ -2,17 +2,23 @@ use mathlib.Core.Path.{_≡_}
 use lib.ListN.{length}
 use Prim.Native.Nat.{_≤_, _-_}
 use borrow.Author.Needs.{needs}
-use Rattle.card_edges.proofs.records.full.Statement.{statement}
-use Rattle.card_edges.proofs.records.full.Tie as tie
+use Rattle.card_compare_edges.proofs.shuffled.Statement.{statement}
+use Rattle.card_compare_edges.proofs.shuffled.Tie as tie
 
 abbrev Inv-loop : tie.InvT-loop
-Inv-loop card₀ i₀ card i = (length card ≡ 4112) × (i ≤ 256)
+Inv-loop slots other₀ i₀ other i = (length other ≡ 4096) × (i ≤ 256)
 
 abbrev μ-loop : tie.MeasureT-loop
-μ-loop card₀ i₀ card i = 256 - i
+μ-loop slots other₀ i₀ other i = 256 - i
 
 loop-holds : tie.Need-loop-holds Inv-loop μ-loop
 loop-holds c = search needs
+
+mul-from : tie.Need-mul-from Inv-loop μ-loop
+mul-from c = search needs
+
+add-from : tie.Need-add-from Inv-loop μ-loop
+add-from c = search needs
 
 slice-aggregate-store : tie.Need-slice-aggregate-store Inv-loop μ-loop
 slice-aggregate-store c = search needs
@@ -20,11 +26,14 @@ slice-aggregate-store c = search needs
 mul-store : tie.Need-mul-store Inv-loop μ-loop
 mul-store c = search needs
 
-cast-numbered : tie.Need-cast-numbered Inv-loop μ-loop
-cast-numbered c = search needs
+slice-aggregate-block-at : tie.Need-slice-aggregate-block-at Inv-loop μ-loop
+slice-aggregate-block-at c = search needs
 
-numbered-requires : tie.Need-numbered-requires Inv-loop μ-loop
-numbered-requires c κs = search needs
+mul-block-at : tie.Need-mul-block-at Inv-loop μ-loop
+mul-block-at c = search needs
+
+block-at-requires : tie.Need-block-at-requires Inv-loop μ-loop
+block-at-requires c κs = search needs
 
 store-requires : tie.Need-store-requires Inv-loop μ-loop
 store-requires c κs = search needs
@@ -41,17 +50,20 @@ loop-again c = search needs
 returns : tie.Need-returns Inv-loop μ-loop
 returns c = search needs
 
-pub full-spec : {M : Type 1} → statement M
-full-spec =
+pub shuffled-spec : {M : Type 1} → statement M
+shuffled-spec =
     tie.close
     (tie.spec
     Inv-loop
     μ-loop
     loop-holds
+    mul-from
+    add-from
     slice-aggregate-store
     mul-store
-    cast-numbered
-    numbered-requires
+    slice-aggregate-block-at
+    mul-block-at
+    block-at-requires
     store-requires
     add-i
     loop-less

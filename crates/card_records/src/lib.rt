@@ -1,4 +1,5 @@
-// The records and cards of the cases.
+// The records and cards of the edge cases.
+ghost use Prim.Native.Nat.{_≤_};
 
 // 02's bytes of a record.
 pub fn record(recipe: u16, segment: u8, kind: u8, target: u16, rate: u16, hold: u16) -> [u8; 16] {
@@ -22,11 +23,6 @@ pub fn record(recipe: u16, segment: u8, kind: u8, target: u16, rate: u16, hold: 
     ]
 }
 
-// A hold at 1,200 degrees.
-pub fn standard(recipe: u16, segment: u8) -> [u8; 16] {
-    record(recipe, segment, 2, 12000, 600, 30)
-}
-
 pub fn empty() -> [u8; 16] {
     [0u8; 16]
 }
@@ -40,18 +36,30 @@ pub fn three(a: [u8; 16], b: [u8; 16], c: [u8; 16]) -> [u8; 48] {
     card
 }
 
-// Number n of the full card: recipes 1 to 8 with 32 segments each.
-fn numbered(n: u8) -> [u8; 16] {
-    let target = 1000 + n as u16;
-    record((1 + n / 32) as u16, 1 + n % 32, 1 + n % 3, target, 600, 10)
+// Number n of a full card.
+fn numbered(n: u8, recipe: u16, kinds: u8, target: u16) -> [u8; 16]
+    requires { ⌜ (recipe ≤ 65528) × (1 ≤ kinds) × (target ≤ 65280) ⌝ }
+{
+    let part = (n / 32) as u16;
+    record(
+        recipe + part,
+        1 + n % 32,
+        1 + n % kinds,
+        target + n as u16,
+        600,
+        10,
+    )
 }
 
-// 256 full slots, and an empty one behind them.
-pub fn full() -> [u8; 4112] {
+// 256 full slots, and an empty one behind them: eight recipes from this one on with 32 segments each, so many kinds in turn, the targets from this one on.
+pub fn full(recipe: u16, kinds: u8, target: u16) -> [u8; 4112]
+    requires { ⌜ (recipe ≤ 65528) × (1 ≤ kinds) × (target ≤ 65280) ⌝ }
+{
     let mut card = [0u8; 4112];
     let mut i: usize = 0;
     while i < 256 {
-        runs::store(&mut card, i * 16, numbered((i % 256) as u8));
+        let slot = numbered((i % 256) as u8, recipe, kinds, target);
+        runs::store(&mut card, i * 16, slot);
         i += 1;
     }
     card
