@@ -38,17 +38,23 @@ module _ {list o out : List ℕ} {i : ℕ} (w : Written list o out i) where
   pub written-on : i < length list → {x : ℕ} → x ≡ getD list i 0 → {out′ : List ℕ} → out′ ≡ take (i * 4) out ++ bytesOf (x ∷ []) ++ drop (i * 4 + 4) out
       → Written list o out′ (i + 1)
   written-on h {x} v e =
-      let s : i + 1 ≡ suc i = omega arith in
       let f : (i + 1) * 4 ≡ i * 4 + 4 = omega arith in
       record {
         inside = omega arith;
         stands =
             e
             ∙ ap₂ (λ (p q : List ℕ). p ++ bytesOf (x ∷ []) ++ q) before behind
-            ∙ ap (λ (p : List ℕ). p ++ drop (i * 4 + 4) o) (sym (ap bytesOf (ap (λ (n : ℕ). take n list) s ∙ take-suc list i 0 h) ∙ bytesOf-append (take i list) (getD list i 0 ∷ []) ∙ ap (λ (n : ℕ). bytesOf (take i list) ++ bytesOf (n ∷ [])) (sym v)))
+            ∙ ap (λ (p : List ℕ). p ++ drop (i * 4 + 4) o) (sym one-more)
             ∙ ap (λ (n : ℕ). bytesOf (take (i + 1) list) ++ drop n o) (sym f);
       }
     where
+      one-more : bytesOf (take (i + 1) list) ≡ bytesOf (take i list) ++ bytesOf (x ∷ [])
+      one-more =
+          let s : i + 1 ≡ suc i = omega arith in
+          ap bytesOf (ap (λ (n : ℕ). take n list) s ∙ take-suc list i 0 h)
+          ∙ bytesOf-append (take i list) (getD list i 0 ∷ [])
+          ∙ ap (λ (n : ℕ). bytesOf (take i list) ++ bytesOf (n ∷ [])) (sym v)
+
       before : take (i * 4) out ≡ bytesOf (take i list)
       before = ap (take (i * 4)) (w .stands) ∙ take-at (bytesOf (take i list)) (drop (i * 4) o) (i * 4) front
 

@@ -90,8 +90,10 @@ one-part card recipe segment p p′ h h′ =
 pub one-put : (card r : List ℕ) (n n′ : ℕ) (q q′ : List ℕ) → Puts card r n q → Puts card r n′ q′ → (n ≡ n′) × (q ≡ q′)
 one-put card r n n′ q q′ h h′ = (h .answered ∙ sym (h′ .answered), h .left ∙ sym (h′ .left))
 
-pub one-comparison : (a b out : List ℕ) (n n′ w w′ : ℕ) (q q′ : List ℕ) → Compares a b out n w q → Compares a b out n′ w′ q′ → (n ≡ n′) × (w ≡ w′) × (q ≡ q′)
-one-comparison a b out n n′ w w′ q q′ h h′ = (h .answered ∙ sym (h′ .answered), h .reported ∙ sym (h′ .reported), h .left ∙ sym (h′ .left))
+pub one-comparison : (a b out : List ℕ) (n n′ w w′ : ℕ) (q q′ : List ℕ) → Compares a b out n w q → Compares a b out n′ w′ q′
+    → (n ≡ n′) × (w ≡ w′) × (q ≡ q′)
+one-comparison a b out n n′ w w′ q q′ h h′ =
+    (h .answered ∙ sym (h′ .answered), h .reported ∙ sym (h′ .reported), h .left ∙ sym (h′ .left))
 
 -- ---- what host/bench measures
 pub one-blocks-measured : (c d : ℕ) (key x o : List ℕ) (r r′ : ℕ) (q q′ : List ℕ)

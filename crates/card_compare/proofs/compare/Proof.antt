@@ -74,7 +74,8 @@ write-requires c κs =
     let e : length (take (t .to-write .result - 0) (made .changes .last .1 .1 .1 .1 .1 .1 .0)) ≡ t .to-write .result = length-take-le _ _ z ∙ omega arith in
     subst (λ (m : ℕ). m * 4 ≤ length (start .args .out .now)) (sym e)
     (fits (start .args .first .now) (start .args .second .now) (start .args .out .now) (made .changes .last .1 .1 .1 .1 .1 .1 .0)
-    (made .before .before .before .before .before .before .before .before .judge .ensures .answered) (made .before .before .before .before .before .judge2 .ensures .answered) (room t) (made .changes .ensures .1)
+    (made .before .before .before .before .before .before .before .before .judge .ensures .answered)
+    (made .before .before .before .before .before .judge2 .ensures .answered) (room t) (made .changes .ensures .1)
     (t .before .first .ensures) (t .to-write .ensures .1))
 
 mul-t35 : tie.Need-mul-t35
@@ -94,7 +95,8 @@ returns c =
     let start = made .before .before .before .before .before .before .before .before .before .before .before .before .before in
     let z : t .to-write .result - 0 ≡ t .to-write .result = omega arith in
     outcome (start .args .first .now) (start .args .second .now) (start .args .out .now) (made .changes .last .1 .1 .1 .1 .1 .1 .0)
-    (made .before .before .before .before .before .before .before .before .judge .ensures .answered) (made .before .before .before .before .before .judge2 .ensures .answered) (room t) (made .changes .ensures .1)
+    (made .before .before .before .before .before .before .before .before .judge .ensures .answered)
+    (made .before .before .before .before .before .judge2 .ensures .answered) (room t) (made .changes .ensures .1)
     (t .before .first .ensures) (t .to-write .ensures .1)
     (c .before .before .write .ensures
     ∙ ap (λ (m : ℕ). bytesOf (take m (made .changes .last .1 .1 .1 .1 .1 .1 .0)) ++ drop (length (take m (made .changes .last .1 .1 .1 .1 .1 .1 .0)) * 4) (start .args .out .now)) z)

@@ -26,9 +26,11 @@ same-length c = search needs
 
 returns : tie.Need-returns
 returns c =
-    let made = c .before .before .before .before .before .before .unsorted .ensures in
+    let collected = c .before .before .before .before .before .before in
+    let made = collected .unsorted .ensures in
     let long = c .before .before .before .before .before .keys .given in
-    in-order _ (c .before .before .before .before .before .before .unsorted .last .1 .0) (c .before .before .sort .last .0) _ _ (c .before .before .before .before .before .before .unsorted .result - 0) (omega arith) (made .0) (long ∙ c .before .before .before .before .before .before .before .before .before .before .pre .1) (made .1) (c .before .keys2 .given .0) (c .before .before .sort .ensures)
+    in-order _ (collected .unsorted .last .1 .0) (c .before .before .sort .last .0) _ _ (collected .unsorted .result - 0) (omega arith)
+    (made .0) (long ∙ collected .before .before .before .before .pre .1) (made .1) (c .before .keys2 .given .0) (c .before .before .sort .ensures)
 
 pub by-pair-spec : {M : Type 1} → statement M
 by-pair-spec =

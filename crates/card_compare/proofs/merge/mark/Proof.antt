@@ -7,16 +7,18 @@ use borrow.Author.Needs.{needs}
 use Rattle.card_compare.proofs.merge.mark.Statement.{statement}
 use Rattle.card_compare.proofs.merge.mark.Tie as tie
 
+abbrev start : tie.Else2 → tie.Start
+start c = c .before .before .before .before .before .before .before .before
+
 -- where neither is less, both are inside
-inside : (c : tie.Else2)
-    → (c .before .before .before .before .before .before .before .before .args .i < length (c .before .before .before .before .before .before .before .before .args .a .now)) × (c .before .before .before .before .before .before .before .before .args .j < length (c .before .before .before .before .before .before .before .before .args .b .now))
+inside : (c : tie.Else2) → (start c .args .i < length (start c .args .a .now)) × (start c .args .j < length (start c .args .b .now))
 inside c =
-    let start = c .before .before .before .before .before .before .before .before in
     let x = c .before .before .before .number .ensures in
     let y = c .before .before .number2 .ensures in
     let l = c .before .if1 .left in
     let m = c .if2 .left in
-    both-inside (start .pre .0) (start .pre .1) (start .pre .2) (start .pre .3) (start .pre .4) (omega arith)
+    let pre = start c .pre in
+    both-inside (pre .0) (pre .1) (pre .2) (pre .3) (pre .4) (omega arith)
 
 number-requires : tie.Need-number-requires
 number-requires c κs = search needs
@@ -26,13 +28,14 @@ number-requires-2 c κs = search needs
 
 returns : tie.Need-returns
 returns c =
-    let start = c .before .before .before .before .before .before .before in
-    mark-first (start .args .first .now) (start .args .second .now) (start .args .a .now) (start .args .b .now) (start .args .i) (start .args .j) (c .before .before .number .ensures) (c .before .number2 .ensures) (c .if1 .taken)
+    let a = c .before .before .before .before .before .before .before .args in
+    mark-first (a .first .now) (a .second .now) (a .a .now) (a .b .now) (a .i) (a .j) (c .before .before .number .ensures) (c .before .number2 .ensures) (c .if1 .taken)
 
 returns-2 : tie.Need-returns-2
 returns-2 c =
-    let start = c .before .before .before .before .before .before .before .before in
-    mark-second (start .args .first .now) (start .args .second .now) (start .args .a .now) (start .args .b .now) (start .args .i) (start .args .j) (c .before .before .before .number .ensures) (c .before .before .number2 .ensures) (c .if2 .taken)
+    let a = c .before .before .before .before .before .before .before .before .args in
+    mark-second (a .first .now) (a .second .now) (a .a .now) (a .b .now) (a .i) (a .j)
+    (c .before .before .before .number .ensures) (c .before .before .number2 .ensures) (c .if2 .taken)
 
 mul-same-slot : tie.Need-mul-same-slot
 mul-same-slot c = search needs
@@ -48,22 +51,25 @@ shared-slice-read-same-slot-2 c = inside (c .before .before) .1
 
 same-slot-requires : tie.Need-same-slot-requires
 same-slot-requires c κs =
-    let start = c .before .before .before .before .before .before .before .before .before .before in
-    let both = inside (c .before .before) in
-    (start .pre .0 .each (start .args .i) (both .0) .inside, start .pre .1 .each (start .args .j) (both .1) .inside)
+    let tests = c .before .before in
+    let a = start tests .args in
+    let both = inside tests in
+    (start tests .pre .0 .each (a .i) (both .0) .inside, start tests .pre .1 .each (a .j) (both .1) .inside)
 
 returns-3 : tie.Need-returns-3
 returns-3 c =
     let tests = c .before .before .before .before in
-    let start = tests .before .before .before .before .before .before .before .before in
-    mark-both (start .args .first .now) (start .args .second .now) (start .args .a .now) (start .args .b .now) (start .args .i) (start .args .j) (tests .before .before .before .number .ensures) (tests .before .before .number2 .ensures)
+    let a = start tests .args in
+    mark-both (a .first .now) (a .second .now) (a .a .now) (a .b .now) (a .i) (a .j)
+    (tests .before .before .before .number .ensures) (tests .before .before .number2 .ensures)
     (tests .before .if1 .left) (tests .if2 .left) (c .before .same-slot .result) (c .before .same-slot .ensures) (rw (c .if3 .taken))
 
 returns-4 : tie.Need-returns-4
 returns-4 c =
     let tests = c .before .before .before .before in
-    let start = tests .before .before .before .before .before .before .before .before in
-    mark-both (start .args .first .now) (start .args .second .now) (start .args .a .now) (start .args .b .now) (start .args .i) (start .args .j) (tests .before .before .before .number .ensures) (tests .before .before .number2 .ensures)
+    let a = start tests .args in
+    mark-both (a .first .now) (a .second .now) (a .a .now) (a .b .now) (a .i) (a .j)
+    (tests .before .before .before .number .ensures) (tests .before .before .number2 .ensures)
     (tests .before .if1 .left) (tests .if2 .left) (c .before .same-slot .result) (c .before .same-slot .ensures) (rw (c .if3 .left))
 
 pub mark-spec : {M : Type 1} → statement M
