@@ -78,25 +78,22 @@ module _ (card : List ℕ) (p : ℕ × ℕ) where
   unfolding found
   found-bad a = rw a
 
-  module _ (a : good card ≡ true) (x : ℕ) (e : x ≡ 0 + place (named p) (slots card)) where
-    at-place : x ≡ place (named p) (slots card)
-    at-place = omega arith
-
+  module _ (a : good card ≡ true) (x : ℕ) (e : x ≡ place (named p) (slots card)) where
     pub found-none : length card / 16 ≤ x → found card p ≡ false
     unfolding found
-    found-none h = ap₂ _&&_ a (has-not (named p) card x at-place h)
+    found-none h = ap₂ _&&_ a (has-not (named p) card x e h)
 
     found-one : x < length card / 16 → found card p ≡ true
     unfolding found
-    found-one h = ap₂ _&&_ a (has (named p) card x at-place h)
+    found-one h = ap₂ _&&_ a (has (named p) card x e h)
 
     pub one-part : x < length card / 16 → slot card x ≡ findPart card p
     unfolding findPart
-    one-part h = rw (found-one h, ← at-place) (sym (slots-at card x h))
+    one-part h = rw (found-one h, ← e) (sym (slots-at card x h))
 
     pub one-at : x < length card / 16 → x * 16 ≡ findAt card p
     unfolding findAt
-    one-at h = rw (found-one h, ← at-place)
+    one-at h = rw (found-one h, ← e)
 
   pub none-part : found card p ≡ false → [] ≡ findPart card p
   unfolding findPart
@@ -107,9 +104,9 @@ module _ (card : List ℕ) (p : ℕ × ℕ) where
   none-at e = rw e
 
 -- ---- where a record goes
-module _ (card r : List ℕ) (n g x : ℕ) (en : n ≡ recipe r) (eg : g ≡ segment r) (ex : x ≡ 0 + place (named (n, g)) (slots card)) where
+module _ (card r : List ℕ) (n g x : ℕ) (en : n ≡ recipe r) (eg : g ≡ segment r) (ex : x ≡ place (named (n, g)) (slots card)) where
   namesake-at : x ≡ place (namesake r) (slots card)
-  namesake-at = let z : x ≡ place (named (n, g)) (slots card) = omega arith in z ∙ ap₂ (λ (a b : ℕ). place (named (a, b)) (slots card)) en eg
+  namesake-at = ex ∙ ap₂ (λ (a b : ℕ). place (named (a, b)) (slots card)) en eg
 
   pub goes-namesake : x < length card / 16 → x ≡ goesTo (slots card) r
   unfolding goesTo

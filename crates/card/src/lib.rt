@@ -58,7 +58,7 @@ pub fn find(card: &[u8], recipe: u64, segment: u64) -> &[u8]
         return &card[0..0];
     }
     let n = card.len() / 16;
-    let i = pairs::of_pair(card, 0, recipe, segment);
+    let i = pairs::of_pair(card, recipe, segment);
     if i < n {
         return slot::at(card, i);
     }
@@ -75,7 +75,7 @@ fn goes_to(card: &[u8], record: &[u8]) -> usize
     }
     let recipe = slot::recipe(record) as u64;
     let segment = slot::segment(record) as u64;
-    let namesake = pairs::of_pair(card, 0, recipe, segment);
+    let namesake = pairs::of_pair(card, recipe, segment);
     let empty = search::of_empty(card);
     if namesake < n {
         return namesake;

@@ -1,7 +1,7 @@
 use mathlib.Core.Path.{refl}
-use Prim.Native.Nat.{_+_, _-_}
+use Prim.Native.Nat.{_-_}
+use native.Mathlib.Nat.{zero-add}
 use native.Mathlib.Omega.{arith}
-use lib.ListN.{drop}
 use Rattle.card.specs.Card.{slots}
 use Rattle.card.specs.Find.{place, named}
 use Rattle.card.proofs.Slots.{long, Looked, looked-on, looked-here, looked-end}
@@ -10,13 +10,13 @@ use Rattle.card.proofs.pairs.of_pair.Tie as tie
 
 -- the test holds of no slot before i
 abbrev Inv-loop : tie.InvT-loop
-Inv-loop card from recipe segment n i₀ i = Looked (named (recipe, segment)) card (from + place (named (recipe, segment)) (drop from (slots card))) n i
+Inv-loop card recipe segment n i₀ i = Looked (named (recipe, segment)) card (place (named (recipe, segment)) (slots card)) n i
 
 abbrev μ-loop : tie.MeasureT-loop
-μ-loop card from recipe segment n i₀ i = n - i
+μ-loop card recipe segment n i₀ i = n - i
 
 loop-holds : tie.Need-loop-holds Inv-loop μ-loop
-loop-holds c = record { all = refl; inside = omega arith; still = refl }
+loop-holds c = record { all = refl; inside = omega arith; still = zero-add _ }
 
 at-requires : tie.Need-at-requires Inv-loop μ-loop
 at-requires c κs = omega arith
