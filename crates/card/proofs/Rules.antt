@@ -1,14 +1,15 @@
 -- The rules of one slot, and whether it has a pair: one law for each outcome, in the order in which the code comes to it.
-use mathlib.Core.Path.{_≡_, sym, ap, _∙_}
+use mathlib.Core.Path.{_≡_, refl, sym, ap, _∙_}
 use mathlib.Core.Bool.{Bool, true, false, not, _&&_}
 use mathlib.Core.List.{List}
 use Prim.Native.Nat.{ℕ, _≤_, _<_}
 use lib.Dec.{eqb}
 use lib.ListN.{length}
 use borrow.Author.Tests.{eq-eqb, ne-eqb, eqb-true, le-leb, lt-leb}
+use Rattle.laws.specs.Choice.{choose}
 use Rattle.laws.proofs.Test.{and-left}
 use Rattle.runs.specs.Zeros.{zeros}
-use Rattle.card.specs.Slot.{recipe, segment, kind, target, rest, within, empty, keepsRules, legal, goodRecord}
+use Rattle.card.specs.Slot.{recipe, segment, kind, target, rest, within, empty, keepsRules, legal, illegal, goodRecord}
 use Rattle.card.specs.Find.{named}
 
 -- ---- a slot that isn't empty
@@ -37,6 +38,22 @@ module _ (s : List ℕ) (a : within 1 65535 (recipe s) ≡ true) where
       pub rules-rest : target s ≤ 13500 → {z : Bool} → z ≡ zeros (rest s) → z ≡ keepsRules s
       unfolding keepsRules
       rules-rest d e = rw (a, b, c, le-leb _ _ d) e
+
+-- ---- a slot, empty or not
+module _ (s : List ℕ) where
+  pub illegal-not : keepsRules s ≡ true → false ≡ illegal s
+  illegal-not e = sym (ap (λ (k : Bool). not (choose (empty s) true k)) e ∙ by-empty (empty s))
+    where
+      by-empty : (b : Bool) → not (choose b true true) ≡ false
+      by-empty true = refl
+      by-empty false = refl
+
+  pub illegal-filled : keepsRules s ≡ false → {f : Bool} → f ≡ not (empty s) → f ≡ illegal s
+  illegal-filled e g = g ∙ by-empty (empty s) ∙ ap (λ (k : Bool). not (choose (empty s) true k)) (sym e)
+    where
+      by-empty : (b : Bool) → not b ≡ not (choose b true false)
+      by-empty true = refl
+      by-empty false = refl
 
 -- ---- a record
 module _ (r : List ℕ) where

@@ -85,15 +85,15 @@ fn keeps_rules(slot: &[u8]) -> bool
     runs::zero_from(slot, 10)
 }
 
-// Does it break the rules?
+// Does it break the rules? Nearly every slot keeps them, so whether it is empty is looked at last.
 pub fn illegal(slot: &[u8]) -> bool
     requires { ⌜ length (now slot) ≡ 16 ⌝ }
     ensures { λ r. ⌜ r ≡ spec.illegal (now (slot .entry)) ⌝ }
 {
-    if empty(slot) {
+    if keeps_rules(slot) {
         return false;
     }
-    !keeps_rules(slot)
+    !empty(slot)
 }
 
 // May the record be put?

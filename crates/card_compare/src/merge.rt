@@ -43,14 +43,12 @@ fn same_slot(first: &[u8], second: &[u8], k: u32, l: u32) -> bool
     runs::zero_from(&differences, 0)
 }
 
-// The mark of the lesser of the next two keys, or 0 where there is no change.
-fn mark(first: &[u8], second: &[u8], a: &[u32], b: &[u32], i: usize, j: usize) -> u8
-    requires { ⌜ Ordered (now first) (now a) × Ordered (now second) (now b)
+// The mark of the lesser of x and y, the numbers of the next two keys, or 0 where there is no change.
+fn mark(first: &[u8], second: &[u8], a: &[u32], b: &[u32], i: usize, j: usize, x: u32, y: u32) -> u8
+    requires { ⌜ (x ≡ spec.numberAt (now a) i) × (y ≡ spec.numberAt (now b) j) × Ordered (now first) (now a) × Ordered (now second) (now b)
         × (i ≤ length (now a)) × (j ≤ length (now b)) × (i + j < length (now a) + length (now b)) ⌝ }
     ensures { λ r. ⌜ r ≡ spec.markAt (now (first .entry)) (now (second .entry)) (now (a .entry)) (now (b .entry)) i j ⌝ }
 {
-    let x = number(a, i);
-    let y = number(b, j);
     if x < y {
         return ONLY_FIRST;
     }
@@ -88,7 +86,7 @@ pub fn changes(first: &[u8], second: &[u8], a: &[u32], b: &[u32], list: &mut [u3
         let x = number(a, i);
         let y = number(b, j);
         let z = lesser(x, y);
-        let m = mark(first, second, a, b, i, j);
+        let m = mark(first, second, a, b, i, j, x, y);
         list[n] = z * 256 + m as u32;
         n += one_if(m != 0);
         i += one_if(x == z);

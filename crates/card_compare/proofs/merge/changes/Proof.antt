@@ -88,8 +88,15 @@ lesser-requires c κs = search needs
 mark-requires : tie.Need-mark-requires Inv-loop μ-loop
 mark-requires c κs =
     let loop = c .before .before .before .before in
-    let w = loop .loop .inv in
-    (start loop .pre .2, start loop .pre .3, w .one .low, w .two .low, c .before .before .before .loop-test .taken)
+    let w = loop .loop .inv in (
+      c .before .before .number .ensures,
+      c .before .number2 .ensures,
+      start loop .pre .2,
+      start loop .pre .3,
+      w .one .low,
+      w .two .low,
+      c .before .before .before .loop-test .taken,
+    )
 
 mul-list : tie.Need-mul-list Inv-loop μ-loop
 mul-list c = omega (arith, small c)
