@@ -1,4 +1,4 @@
-/* Measures every work of works.h, for each cipher and direction, on a card and for each cipher's seals, a line
+/* Measures every work of works.h, for each cipher and direction, on cards and for each cipher's seals, a line
    WORK NAME AMOUNT for each, an amount being that of a block. `bench times`: the shortest of many runs in turn, in
    nanoseconds. `bench counts`, which callgrind runs: a dump for each, called WORK NAME BLOCKS. host/bench makes its
    lines of both. */
@@ -62,6 +62,9 @@ int main(int argc, char **argv)
 {
     static const char *const ciphers[] = { "", "hierocrypt3", "e2", "noekeon", "noekeon-earlier" };
     static const char *const ways[] = { "", "encipher", "decipher" };
+    static const struct { const char *name; int slots; } cards[] = {
+        { "card", SLOTS }, { "card-64", 64 }, { "card-16", 16 },
+    };
     if (argc != 2 || (strcmp(argv[1], "times") != 0 && strcmp(argv[1], "counts") != 0)) {
         fprintf(stderr, "bench times | counts\n");
         return 2;
@@ -75,7 +78,10 @@ int main(int argc, char **argv)
             snprintf(name, sizeof name, "%s-%s", ciphers[cipher], ways[direction]);
             measure(name, works, WORKS, cipher, direction);
         }
-    measure("card", card_works, CARD_WORKS, 0, 0);
+    for (size_t i = 0; i < sizeof cards / sizeof *cards; i++) {
+        make_cards(cards[i].slots);
+        measure(cards[i].name, card_works, CARD_WORKS, 0, 0);
+    }
     for (int cipher = HIEROCRYPT3; cipher <= NOEKEON_EARLIER; cipher++)
         measure(ciphers[cipher], seal_works, SEAL_WORKS, cipher, ENCIPHER);
     return 0;

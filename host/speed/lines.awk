@@ -3,6 +3,7 @@
 FNR == 1 { file++ }
 !((file, $1, $2) in amount) || $3 < amount[file, $1, $2] { amount[file, $1, $2] = $3 }
 file == 2 && $1 == "cbc" && !named[$2]++ { names[++n] = $2 }
+file == 2 && $1 == "compare" && !compared[$2]++ { cards[++c] = $2 }
 file == 2 && $1 == "seal" && !sealed[$2]++ { seals[++m] = $2 }
 
 # The amount of a work and its ratio to another's, in nanoseconds and then in instructions. With `calls`, the amount
@@ -28,6 +29,8 @@ END {
     line("good-", "card", "good", "c-good")
     line("find-", "card", "find", "c-find")
     line("pass-", "card", "find", "good", 1)
+    for (i = 1; i <= c; i++)
+        line("compare-", cards[i], "compare", "c-compare")
     for (i = 1; i <= m; i++) {
         line("seal-", seals[i], "seal", "blocks")
         line("seal-piece-", seals[i], "seal-bytes", "blocks", 16)

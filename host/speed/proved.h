@@ -22,6 +22,8 @@ uint64_t tlilcueyoh_speed_bytes(uint64_t cipher, uint64_t direction, const uint8
 
 uint64_t tlilcueyoh_speed_good(const uint8_t *card, size_t card_len);
 uint64_t tlilcueyoh_speed_find(const uint8_t *card, size_t card_len, uint64_t recipe, uint64_t segment);
+uint64_t tlilcueyoh_speed_compare(const uint8_t *first, size_t first_len, const uint8_t *second, size_t second_len,
+                                  uint8_t *out, size_t out_len);
 
 /* The input as one piece of a fresh seal, which is then written to the front of out: 16 bytes. */
 uint64_t tlilcueyoh_speed_seal(uint64_t cipher, const uint8_t *key, size_t key_len, const uint8_t *in, size_t in_len,

@@ -1,7 +1,6 @@
 /* See works.h. */
 #include "works.h"
 #include "../tlilcueyoh.h"
-#include "card.h"
 #include "proved.h"
 
 #include <stdio.h>
@@ -13,7 +12,6 @@ static const struct yardstick *const yardsticks[] = {
     NULL, &hierocrypt3_yardstick, &e2_yardstick, &noekeon_yardstick, &noekeon_yardstick,
 };
 static uint8_t key[16], first[16], in[BYTES], out[BYTES], other[BYTES];
-static uint8_t card[16 * SLOTS];
 
 /* How much of the input is sealed: all of it where that is measured. */
 static size_t sealed = BYTES;
@@ -81,43 +79,6 @@ static void our_seal_bytes(int cipher, int direction)
     done(tlilcueyoh_speed_seal_bytes(cipher, key, 16, in, sealed, out, BYTES));
 }
 
-static void yes(uint64_t answer, uint64_t wanted)
-{
-    if (answer == wanted)
-        return;
-    fprintf(stderr, "bench: a full card gives %d\n", (int)answer);
-    exit(1);
-}
-
-static void our_good(int cipher, int direction)
-{
-    (void)cipher, (void)direction;
-    yes(tlilcueyoh_speed_good(card, sizeof card), 1);
-}
-
-static void c_good(int cipher, int direction)
-{
-    (void)cipher, (void)direction;
-    yes((uint64_t)card_good(card, sizeof card), 1);
-}
-
-/* The last slot's pair, so that the search is a whole pass. */
-static void our_find(int cipher, int direction)
-{
-    (void)cipher, (void)direction;
-    yes(tlilcueyoh_speed_find(card, sizeof card, SLOTS / 32, 32), 16);
-}
-
-static void c_find(int cipher, int direction)
-{
-    (void)cipher, (void)direction;
-    yes(card_find(card, sizeof card, SLOTS / 32, 32), 16);
-}
-
-const struct work card_works[CARD_WORKS] = {
-    { "good", our_good, 1 }, { "c-good", c_good, 1 }, { "find", our_find, 1 }, { "c-find", c_find, 1 },
-};
-
 const struct work seal_works[SEAL_WORKS] = {
     { "blocks", our_blocks, BLOCKS }, { "seal", our_seal, BLOCKS }, { "c-seal", c_seal, BLOCKS },
     { "seal-bytes", our_seal_bytes, BLOCKS },
@@ -139,10 +100,6 @@ void make_ready(void)
     memcpy(first, in + 32, 16);
     for (int cipher = HIEROCRYPT3; cipher <= NOEKEON; cipher++)
         yardsticks[cipher]->make_ready();
-    for (int i = 0; i < SLOTS; i++) {
-        const uint8_t record[16] = { 0, (uint8_t)(1 + i / 32), (uint8_t)(1 + i % 32), 2, 0x2e, 0xe0, 2, 0x58, 0, 30 };
-        memcpy(card + 16 * i, record, 16);
-    }
 }
 
 static void hold(const struct work *ours, const struct work *c, int cipher, int direction)
@@ -179,4 +136,5 @@ void hold_to_each_other(void)
         }
         hold_seals(cipher);
     }
+    hold_cards();
 }

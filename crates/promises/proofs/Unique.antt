@@ -25,7 +25,7 @@ use Rattle.seal.specs.declared.Written.{Written}
 use Rattle.seal.specs.declared.Checked.{Checked}
 use Rattle.entry.specs.Entry.{WorksForC, TellsVersion}
 use Rattle.speed.specs.Works.{Result, WorksBlocks, WorksMessage, WorksBytes}
-use Rattle.card_speed.specs.Works.{MeasuresGood, MeasuresFind}
+use Rattle.card_speed.specs.Works.{MeasuresGood, MeasuresFind, MeasuresCompare}
 use Rattle.seal_speed.specs.Works.{SealsMessage, SealsBytes}
 use Rattle.seal_speed.specs.Works as seal-works
 
@@ -115,6 +115,10 @@ one-good-measured card r r′ h h′ = h .answered ∙ sym (h′ .answered)
 
 pub one-find-measured : (card : List ℕ) (recipe segment r r′ : ℕ) → MeasuresFind card recipe segment r → MeasuresFind card recipe segment r′ → r ≡ r′
 one-find-measured card recipe segment r r′ h h′ = h .answered ∙ sym (h′ .answered)
+
+pub one-compare-measured : (a b o : List ℕ) (r r′ : ℕ) (q q′ : List ℕ)
+    → MeasuresCompare a b o r q → MeasuresCompare a b o r′ q′ → (r ≡ r′) × (q ≡ q′)
+one-compare-measured a b o r r′ q q′ h h′ = (h .answered ∙ sym (h′ .answered), h .left ∙ sym (h′ .left))
 
 pub one-seal-measured : (c : ℕ) (key x o : List ℕ) (r r′ : ℕ) (q q′ : List ℕ)
     → SealsMessage c key x o r q → SealsMessage c key x o r′ q′ → (r ≡ r′) × (q ≡ q′)

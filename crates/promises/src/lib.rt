@@ -17,7 +17,7 @@ ghost use Rattle.stream_record.specs.Promises.{LaysDown, TakesUp};
 ghost use Rattle.seal.specs.Promises.{StartsSeal, FeedsSeal, WritesSeal, ChecksSeal};
 ghost use Rattle.entry.specs.Entry.{WorksForC, TellsVersion};
 ghost use Rattle.speed.specs.Works.{WorksBlocks, WorksMessage, WorksBytes};
-ghost use Rattle.card_speed.specs.Works.{MeasuresGood, MeasuresFind};
+ghost use Rattle.card_speed.specs.Works.{MeasuresGood, MeasuresFind, MeasuresCompare};
 ghost use Rattle.seal_speed.specs.Works.{SealsMessage, SealsBytes};
 
 pub fn set_up(cipher: u64, key: &[u8]) -> SetUp
@@ -182,6 +182,12 @@ pub fn find_measured(card: &[u8], recipe: u64, segment: u64) -> u64
     ensures { λ r. ⌜ MeasuresFind (now (card .entry)) recipe segment r ⌝ }
 {
     card_speed::tlilcueyoh_speed_find(card, recipe, segment)
+}
+
+pub fn compare_measured(first: &[u8], second: &[u8], out: &mut [u8]) -> u64
+    ensures { λ r. ⌜ MeasuresCompare (now (first .entry)) (now (second .entry)) (now (out .entry)) r (now (out .exit)) ⌝ }
+{
+    card_speed::tlilcueyoh_speed_compare(first, second, out)
 }
 
 pub fn seal_measured(cipher: u64, key: &[u8], input: &[u8], output: &mut [u8]) -> u64
