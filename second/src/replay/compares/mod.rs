@@ -38,7 +38,7 @@ pub fn write(script: &mut Script) {
 const LONGEST: usize = 2048;
 
 /// The script while cards are compared in it. What an output holds before is drawn.
-struct Compares<'a> {
+pub struct Compares<'a> {
     script: &'a mut Script,
     random: Random,
 }
