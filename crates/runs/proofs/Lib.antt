@@ -1,2 +1,3 @@
-pub mod Fill
 pub mod Same
+pub mod All
+pub mod Fill

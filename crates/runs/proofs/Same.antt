@@ -41,7 +41,7 @@ same-length a b z = go (same a b) refl
 xor-none : (x y : ℕ) → bitXor x y ≡ 0 → x ≡ y
 xor-none x y e = sym (xor-cancel-r x y) ∙ ap (λ (v : ℕ). bitXor v y) e ∙ xor-zero-l y
 
-xor-test : (x y : ℕ) → eqb (bitXor x y) 0 ≡ eqb x y
+pub xor-test : (x y : ℕ) → eqb (bitXor x y) 0 ≡ eqb x y
 xor-test x y = go (eqb x y) refl
   where
     go : (t : Bool) → eqb x y ≡ t → eqb (bitXor x y) 0 ≡ eqb x y
