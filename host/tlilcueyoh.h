@@ -1,5 +1,5 @@
 /* Tlilcueyoh: one block of Hierocrypt-3, E2 or either Noekeon, enciphered or deciphered.
-   Follows document 01, 'What is built' and 'Refusal numbers', and 02, request 2.
+   Follows document 01, 'What is built' and 'Refusal numbers', and 02, requests 2 and 7.
 
    The entry works ONE block and doesn't chain: a card of several blocks is CBC, which
    the caller does around it. host/example/card.c has both directions, for copying. */
@@ -15,8 +15,9 @@ extern "C" {
 
 /* The version that this header speaks of. The archive's is what tlilcueyoh_version
    answers: a host that compares them notices an archive of another version. In version 1
-   the number 3 was the earlier Noekeon, and there was no 4. */
-#define TLILCUEYOH_VERSION 2
+   the number 3 was the earlier Noekeon, and there was no 4; before version 3 a blank key
+   was taken. */
+#define TLILCUEYOH_VERSION 3
 
 /* Every block has this many bytes. */
 #define TLILCUEYOH_BLOCK_BYTES 16
@@ -40,6 +41,7 @@ extern "C" {
 #define TLILCUEYOH_DONE            0
 #define TLILCUEYOH_UNKNOWN_CIPHER  1 /* cipher isn't 1 to 4 */
 #define TLILCUEYOH_KEY_LENGTH      2 /* key_len is illegal for the cipher */
+#define TLILCUEYOH_BLANK_KEY      17 /* the key's bytes are all equal */
 #define TLILCUEYOH_DIRECTION       4 /* direction isn't 1 or 2 */
 #define TLILCUEYOH_BLOCK_LENGTH   11 /* in_len isn't 16 */
 #define TLILCUEYOH_NO_ROOM         9 /* out_len is under 16 */

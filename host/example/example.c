@@ -14,6 +14,10 @@ static const uint8_t card[TLILCUEYOH_BLOCK_BYTES] = {0x5c, 0x5f, 0x4b, 0x00, 0xa
 static const uint8_t recipe[TLILCUEYOH_BLOCK_BYTES] = {0x85, 0x69, 0x38, 0x46, 0xdb, 0x4c, 0x1b, 0x34,
                                                        0x87, 0x27, 0x2e, 0x55, 0x57, 0x61, 0xc7, 0xf5};
 
+/* What a key that was never written reads as. */
+static const uint8_t blank[16] = {0xff, 0xff, 0xff, 0xff, 0xff, 0xff, 0xff, 0xff,
+                                  0xff, 0xff, 0xff, 0xff, 0xff, 0xff, 0xff, 0xff};
+
 /* Only after USE_BLOCK does the output hold a block: no refusal writes a byte. */
 enum next { USE_BLOCK, READ_CARD_AGAIN, ASK_FOR_KEY, REJECT_CARD, STOP };
 
@@ -28,6 +32,9 @@ static enum next after(uint64_t answer)
         return REJECT_CARD;
     case TLILCUEYOH_KEY_LENGTH:
         printf("key length: the cipher takes no key of this length, the potter is asked for the key\n");
+        return ASK_FOR_KEY;
+    case TLILCUEYOH_BLANK_KEY:
+        printf("blank key: its bytes are all equal, as where none was written, the potter is asked for the key\n");
         return ASK_FOR_KEY;
     case TLILCUEYOH_DIRECTION:
         printf("direction: neither of the two, a fault of this program, which stops\n");
@@ -44,20 +51,22 @@ static enum next after(uint64_t answer)
     }
 }
 
-/* A call by its numbers and lengths. The first is good; each of the others has one fault. */
+/* A call by its numbers, key and lengths. The first is good; each of the others has one fault. */
 struct call {
     uint64_t cipher, direction;
+    const uint8_t *key;
     size_t key_length, block_length, room;
     enum next next;
 };
 
 static const struct call calls[] = {
-    {TLILCUEYOH_HIEROCRYPT3, TLILCUEYOH_DECIPHER, sizeof key, sizeof card, sizeof recipe, USE_BLOCK},
-    {5, TLILCUEYOH_DECIPHER, sizeof key, sizeof card, sizeof recipe, REJECT_CARD},
-    {TLILCUEYOH_HIEROCRYPT3, TLILCUEYOH_DECIPHER, 15, sizeof card, sizeof recipe, ASK_FOR_KEY},
-    {TLILCUEYOH_HIEROCRYPT3, 0, sizeof key, sizeof card, sizeof recipe, STOP},
-    {TLILCUEYOH_HIEROCRYPT3, TLILCUEYOH_DECIPHER, sizeof key, 15, sizeof recipe, READ_CARD_AGAIN},
-    {TLILCUEYOH_HIEROCRYPT3, TLILCUEYOH_DECIPHER, sizeof key, sizeof card, 15, STOP},
+    {TLILCUEYOH_HIEROCRYPT3, TLILCUEYOH_DECIPHER, key, sizeof key, sizeof card, sizeof recipe, USE_BLOCK},
+    {5, TLILCUEYOH_DECIPHER, key, sizeof key, sizeof card, sizeof recipe, REJECT_CARD},
+    {TLILCUEYOH_HIEROCRYPT3, TLILCUEYOH_DECIPHER, key, 15, sizeof card, sizeof recipe, ASK_FOR_KEY},
+    {TLILCUEYOH_HIEROCRYPT3, TLILCUEYOH_DECIPHER, blank, sizeof blank, sizeof card, sizeof recipe, ASK_FOR_KEY},
+    {TLILCUEYOH_HIEROCRYPT3, 0, key, sizeof key, sizeof card, sizeof recipe, STOP},
+    {TLILCUEYOH_HIEROCRYPT3, TLILCUEYOH_DECIPHER, key, sizeof key, 15, sizeof recipe, READ_CARD_AGAIN},
+    {TLILCUEYOH_HIEROCRYPT3, TLILCUEYOH_DECIPHER, key, sizeof key, sizeof card, 15, STOP},
 };
 
 static void use(const uint8_t *block)
@@ -72,7 +81,7 @@ int main(void)
     for (size_t i = 0; i < sizeof calls / sizeof *calls; i++) {
         const struct call *call = &calls[i];
         uint8_t out[TLILCUEYOH_BLOCK_BYTES];
-        uint64_t answer = tlilcueyoh_block(call->cipher, call->direction, key, call->key_length, card,
+        uint64_t answer = tlilcueyoh_block(call->cipher, call->direction, call->key, call->key_length, card,
                                            call->block_length, out, call->room);
         enum next next = after(answer);
         if (next != call->next)

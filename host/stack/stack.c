@@ -13,7 +13,7 @@ static uint8_t stack[1 << 16];
 static ucontext_t back, there;
 static uint64_t cipher, direction, answer;
 static size_t key_len;
-static uint8_t key[32], in[TLILCUEYOH_BLOCK_BYTES], out[TLILCUEYOH_BLOCK_BYTES];
+static uint8_t key[32] = {1}, in[TLILCUEYOH_BLOCK_BYTES], out[TLILCUEYOH_BLOCK_BYTES];
 
 static void empty(void) {}
 

@@ -9,6 +9,7 @@ void check_shared_key_and_block(void);
 void check_order_of_refusals(void);
 void check_wide_numbers(void);
 void check_key_lengths(void);
+void check_blank_keys(void);
 void check_block_lengths(void);
 void check_rooms(void);
 void check_wide_lengths(void);

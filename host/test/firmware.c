@@ -15,6 +15,7 @@ int main(void)
     check_order_of_refusals();
     check_wide_numbers();
     check_key_lengths();
+    check_blank_keys();
     check_block_lengths();
     check_rooms();
     check_wide_lengths();

@@ -7,6 +7,14 @@
 
 enum { RANDOM_CALLS = 150000 };
 
+static int is_blank(const struct call *call)
+{
+    for (size_t i = 1; i < call->key_length; i++)
+        if (call->key[i] != call->key[i - 1])
+            return 0;
+    return 1;
+}
+
 static uint64_t predicted(const struct call *call)
 {
     if (call->cipher == 0 || call->cipher > 4)
@@ -14,6 +22,8 @@ static uint64_t predicted(const struct call *call)
     int one_length = call->cipher == TLILCUEYOH_NOEKEON || call->cipher == TLILCUEYOH_NOEKEON_EARLIER;
     if (call->key_length != 16 && (one_length || (call->key_length != 24 && call->key_length != 32)))
         return TLILCUEYOH_KEY_LENGTH;
+    if (is_blank(call))
+        return TLILCUEYOH_BLANK_KEY;
     if (call->direction == 0 || call->direction > 2)
         return TLILCUEYOH_DIRECTION;
     if (call->block_length != 16)
@@ -43,7 +53,16 @@ static size_t some_length(void)
     return random_below(2) ? random_below(LONGEST + 1) : near[random_below(sizeof near / sizeof *near)];
 }
 
-static struct call some_good_call(void)
+/* One byte over and over; in every other key, one place that may differ. */
+static void make_uniform(uint8_t *key)
+{
+    memset(key, random_below(2) ? 0xFF : 0, LONGEST);
+    if (random_below(2))
+        key[random_below(LONGEST)] = (uint8_t)random_below(256);
+}
+
+/* Good but for its key, which may be blank. */
+static struct call some_call(void)
 {
     struct call call = good_call(kinds[random_below(KINDS)], 1 + random_below(2));
     call.room = 16 + random_below(LONGEST - 15);
@@ -51,13 +70,13 @@ static struct call some_good_call(void)
     call.block_layout = (enum layout)random_below(LAYOUTS);
     call.out_layout = (enum layout)random_below(LAYOUTS);
     if (random_below(8) == 0)
-        memset(call.key, random_below(2) ? 0xFF : 0, LONGEST);
+        make_uniform(call.key);
     if (random_below(8) == 0)
         memset(call.block, random_below(2) ? 0xFF : 0, LONGEST);
     return call;
 }
 
-/* Draws about one in three of the call's numbers and lengths anew; it may stay good. */
+/* Draws about one in three of the call's numbers and lengths anew; it may stay or become good. */
 static void damage(struct call *call)
 {
     if (random_below(3) == 0)
@@ -75,7 +94,7 @@ static void damage(struct call *call)
 void check_random_calls(void)
 {
     for (int n = 0; n < RANDOM_CALLS; n++) {
-        struct call call = some_good_call();
+        struct call call = some_call();
         if (random_below(2))
             damage(&call);
         if (predicted(&call) == TLILCUEYOH_DONE)

@@ -2,6 +2,8 @@
 #include "call.h"
 #include "checks.h"
 
+#include <string.h>
+
 static int legal_key_length(uint64_t cipher, size_t length)
 {
     for (int k = 0; k < KINDS; k++)
@@ -11,11 +13,11 @@ static int legal_key_length(uint64_t cipher, size_t length)
 }
 
 /* Causes in the order of their refusals; a set of them is a number with bit i for cause i. */
-enum { CAUSES = 5, VARIANTS = 6 };
+enum { CAUSES = 6, VARIANTS = 6 };
 
 static const uint64_t refusals[CAUSES] = {
-    TLILCUEYOH_UNKNOWN_CIPHER, TLILCUEYOH_KEY_LENGTH, TLILCUEYOH_DIRECTION,
-    TLILCUEYOH_BLOCK_LENGTH, TLILCUEYOH_NO_ROOM,
+    TLILCUEYOH_UNKNOWN_CIPHER, TLILCUEYOH_KEY_LENGTH, TLILCUEYOH_BLANK_KEY,
+    TLILCUEYOH_DIRECTION, TLILCUEYOH_BLOCK_LENGTH, TLILCUEYOH_NO_ROOM,
 };
 
 static void damage(struct call *call, unsigned set, int variant)
@@ -25,6 +27,7 @@ static void damage(struct call *call, unsigned set, int variant)
     static const uint64_t directions[VARIANTS] = {
         0, 3, 256 + 2, (UINT64_C(1) << 32) + 1, UINT64_MAX, 256 + 1};
     static const size_t key_lengths[VARIANTS] = {0, 15, 17, 23, 33, LONGEST};
+    static const int blanks[VARIANTS] = {0x00, 0xFF, 0x01, 0x7F, 0x80, 0xA5};
     static const size_t block_lengths[VARIANTS] = {0, 15, 17, 1, 32, LONGEST};
     static const size_t rooms[VARIANTS] = {0, 15, 1, 8, 14, 15};
     if (set & 1)
@@ -32,10 +35,12 @@ static void damage(struct call *call, unsigned set, int variant)
     if (set & 2)
         call->key_length = key_lengths[variant];
     if (set & 4)
-        call->direction = directions[variant];
+        memset(call->key, blanks[variant], LONGEST);
     if (set & 8)
-        call->block_length = block_lengths[variant];
+        call->direction = directions[variant];
     if (set & 16)
+        call->block_length = block_lengths[variant];
+    if (set & 32)
         call->room = rooms[variant];
 }
 
@@ -58,7 +63,7 @@ static void check_set(unsigned set, struct kind kind, uint64_t direction)
         }
 }
 
-/* Every set of causes at once: none, each alone, all pairs, and on to all five. */
+/* Every set of causes at once: none, each alone, all pairs, and on to all six. */
 void check_order_of_refusals(void)
 {
     for (unsigned set = 0; set < 1u << CAUSES; set++)
@@ -111,6 +116,19 @@ void check_key_lengths(void)
             call.key_length = length;
             expect(&call, legal_key_length(call.cipher, length) ? TLILCUEYOH_DONE : TLILCUEYOH_KEY_LENGTH,
                    NULL);
+        }
+}
+
+/* Every byte over and over; and with a bit changed in any one place the key is taken. */
+void check_blank_keys(void)
+{
+    for (int n = 0; n < EVERY_CALL; n++)
+        for (int byte = 0; byte < 256; byte++) {
+            struct call call = every_call(n);
+            memset(call.key, byte, LONGEST);
+            expect(&call, TLILCUEYOH_BLANK_KEY, NULL);
+            call.key[(size_t)byte % call.key_length] ^= (uint8_t)(1 << byte % 8);
+            expect_round_trip(&call);
         }
 }
 

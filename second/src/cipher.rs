@@ -1,10 +1,11 @@
 //! The key schedule record; set-up and one block, whichever cipher.
 //! Follows document 01, 'What is built', 'The two records' and 'Refusal numbers', and
-//! document 02, request 2, for numbers 3 and 4.
+//! document 02, request 2, for numbers 3 and 4, and request 7, for blank keys.
 
 use crate::bytes::{part, Block};
 use crate::refusal::Answer;
 use crate::{e2, hierocrypt3, noekeon};
+use std::collections::BTreeSet;
 
 pub const HIEROCRYPT3: u8 = 1;
 pub const E2: u8 = 2;
@@ -35,6 +36,11 @@ fn key_lengths(cipher: u64) -> Option<&'static [usize]> {
         3 | 4 => Some(&[16]),
         _ => None,
     }
+}
+
+/// Whether the key has one byte value and no other.
+pub fn is_blank(key: &[u8]) -> bool {
+    key.iter().collect::<BTreeSet<_>>().len() == 1
 }
 
 /// How many round key bytes a legal cipher and key length use.
@@ -112,6 +118,7 @@ pub fn set_up(cipher: u64, key: &[u8]) -> SetUp {
     let answer = Answer::first(&[
         (Answer::CipherNumber, !is_cipher(cipher)),
         (Answer::KeyLength, !is_key_length(cipher, key.len())),
+        (Answer::BlankKey, is_blank(key)),
     ]);
     let schedule = match answer {
         Answer::Done => schedule_of(cipher as u8, key),
@@ -120,7 +127,8 @@ pub fn set_up(cipher: u64, key: &[u8]) -> SetUp {
     SetUp { answer, schedule }
 }
 
-fn schedule_of(cipher: u8, key: &[u8]) -> Schedule {
+/// What the definitions make of a key of a legal length, blank or not.
+pub fn schedule_of(cipher: u8, key: &[u8]) -> Schedule {
     let round_keys = match cipher {
         HIEROCRYPT3 => hierocrypt3::keys::set_up(key),
         E2 => e2::keys::set_up(key),

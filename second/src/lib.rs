@@ -1,4 +1,4 @@
-//! The second program: document 01 and requests 1 to 3, 5 and 6 of document 02 once
+//! The second program: document 01 and requests 1 to 3 and 5 to 7 of document 02 once
 //! more, by another road than a fast program would take, so that its answers can be held
 //! against those of the product. Request 4 moves no answer.
 

@@ -1,5 +1,5 @@
 //! The answer of a call: done, or a refusal with its number and name.
-//! Follows document 01, 'Refusal numbers', and document 02, requests 1 and 5.
+//! Follows document 01, 'Refusal numbers', and document 02, requests 1, 5 and 7.
 
 #[derive(Clone, Copy, Debug, PartialEq, Eq)]
 #[repr(u8)]
@@ -21,6 +21,7 @@ pub enum Answer {
     NoSlot = 14,
     BadReading = 15,
     OtherSchedule = 16,
+    BlankKey = 17,
 }
 
 impl Answer {

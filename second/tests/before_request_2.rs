@@ -1,16 +1,19 @@
 //! What number 3 answered before request 2 now comes from number 4: the parts of the
-//! script that were there then, with their numbers changed back, the answers to them, and
-//! the edge cases of the ciphers.
+//! script that were there then, with their numbers changed back and request 7's change taken
+//! back, the answers to them, and the edge cases of the ciphers without request 7's.
 //! Follows document 02, request 2, and the page on replay.
 
 mod digest;
+mod made_calls;
+mod script_calls;
+mod taken_back;
 
-use digest::{digest, old_part};
-use second::bytes::part;
+use digest::digest;
+use made_calls::made;
 use second::edges::ciphers;
 use second::replay::call::Call;
-use second::replay::reader::Reader;
 use second::replay::record::{SCHEDULE_BYTES, STREAM_BYTES};
+use taken_back::stood;
 
 /// Length and digest of the script and of the answers of the base and request 1, as they
 /// stood in `replay/script` and `replay/answers` before request 2.
@@ -23,8 +26,9 @@ const BEFORE: [(usize, u64); 2] = [
 /// product's `crates/edges/stdout` before request 2.
 const EDGES_BEFORE: (usize, u64) = (5148, 0x35F1_C05D_8E77_DEFB);
 
-/// The number that stood where `today` stands, and took as many bytes: 3 was the earlier Noekeon, and 4 was
-/// illegal, in whose place stands 7. Today's 3 is new, and no old part has it.
+/// The number that stood where `today` stands, and took as many bytes: 3 was the earlier
+/// Noekeon, and 4 was illegal, in whose place stands 7. Today's 3 is new, and no old part
+/// has it.
 fn before(today: u64) -> u64 {
     assert_ne!(today, 3, "an old part has today's number 3");
     match today {
@@ -48,53 +52,40 @@ fn with_number_before(mut call: Call) -> Call {
     call
 }
 
-/// How many bytes are written for the call, and how many of them, at the end, are a
-/// record that begins with a cipher number. Of a find, `answers` has the length.
-fn written(call: &Call, answers: &[u8]) -> (usize, usize) {
-    match call {
-        Call::SetUp { .. } => (1 + SCHEDULE_BYTES, SCHEDULE_BYTES),
-        Call::Encipher { buffer, .. }
-        | Call::Decipher { buffer, .. }
-        | Call::Entry { buffer, .. } => (1 + buffer.room, 0),
-        Call::Start { .. } | Call::Finish => (1 + STREAM_BYTES, STREAM_BYTES),
-        Call::Piece { buffer, .. } => (9 + buffer.room + STREAM_BYTES, STREAM_BYTES),
-        Call::KeepSchedule(_) | Call::KeepStream(_) => (0, 0),
-        Call::IsGood { .. } => (1, 0),
-        Call::Find { .. } => (4 + u32::from_be_bytes(part(answers, 0)) as usize, 0),
-        Call::Put { card, .. } => (1 + card.len(), 0),
-        _ => panic!("an old part has call {:02X}", call.number()),
+/// How many of the bytes that are written for the call, at the end, are a record that
+/// begins with a cipher number.
+fn record(call: &Call) -> usize {
+    match call.number() {
+        1 => SCHEDULE_BYTES,
+        4..=6 => STREAM_BYTES,
+        2 | 3 | 7..=0x0C => 0,
+        number => panic!("an old part has call {number:02X}"),
     }
 }
 
 /// Script and answers with the numbers that they had before, by length and digest.
 fn as_before(script: &[u8], answers: &[u8]) -> [(usize, u64); 2] {
-    let (mut old_script, mut old_answers) = (Vec::new(), answers.to_vec());
-    let mut reader = Reader::new(script);
-    let mut place = 0;
-    while !reader.at_end() {
-        let call = reader.call().expect("the old parts end with a call");
-        let (length, record) = written(&call, &answers[place..]);
-        place += length;
-        if record > 0 {
-            set_back(&mut old_answers[place - record]);
+    let [mut old_script, mut old_answers] = [Vec::new(), Vec::new()];
+    for (call, mut back) in made(script, answers) {
+        let place = back.len() - record(&call);
+        if place < back.len() {
+            set_back(&mut back[place]);
         }
+        old_answers.extend(back);
         old_script.extend(with_number_before(call).bytes());
     }
-    assert_eq!(place, answers.len());
     [old_script, old_answers].map(|old| (old.len(), digest(&old)))
 }
 
 #[test]
 fn what_3_answered_before_comes_from_4() {
-    let script = old_part("script", BEFORE[0]);
-    let answers = old_part("answers", BEFORE[1]);
+    let [script, answers] = stood(BEFORE[0].0);
     assert_eq!(as_before(&script, &answers), BEFORE);
 }
 
 #[test]
 fn a_byte_that_differs_is_seen() {
-    let script = old_part("script", BEFORE[0]);
-    let answers = old_part("answers", BEFORE[1]);
+    let [script, answers] = stood(BEFORE[0].0);
     let mut changed = answers.clone();
     *changed.last_mut().unwrap() ^= 1;
     assert_ne!(as_before(&script, &changed), BEFORE);
@@ -103,9 +94,18 @@ fn a_byte_that_differs_is_seen() {
     assert_ne!(as_before(&changed, &answers), BEFORE);
 }
 
+/// Request 7 brought eight lines for each cipher; they alone say what each byte is.
+fn without_request_7(text: &str) -> String {
+    let (new, old): (Vec<&str>, Vec<&str>) = text
+        .lines()
+        .partition(|line| line.contains(" bytes, each "));
+    assert_eq!(new.len(), 4 * 8);
+    old.iter().map(|line| format!("{line}\n")).collect()
+}
+
 #[test]
 fn the_edge_cases_of_3_before_are_those_of_4() {
-    let text = ciphers();
+    let text = without_request_7(&ciphers());
     let new = text.find("cipher 3\n").unwrap();
     let earlier = text.find("cipher 4\n").unwrap();
     let before = text[..new].to_string() + &text[earlier..].replace("cipher 4\n", "cipher 3\n");

@@ -2,8 +2,10 @@
 //! Follows document 02, request 3, and the page on replay.
 
 mod digest;
+mod made_calls;
 mod old_parts;
 mod script_calls;
+mod taken_back;
 
 use old_parts::Before;
 
@@ -12,7 +14,7 @@ const BEFORE: Before = Before {
         (1_102_954, 0x7FC8_8C4F_F508_CE4F),
         (1_089_692, 0x7D35_09A3_5903_BF63),
     ],
-    new_calls: 0x0D..=0x11,
+    is_new: |call, _| (0x0D..=0x11).contains(&call.number()),
 };
 
 #[test]

@@ -2,8 +2,10 @@
 //! Follows document 02, request 6, and the page on replay.
 
 mod digest;
+mod made_calls;
 mod old_parts;
 mod script_calls;
+mod taken_back;
 
 use old_parts::Before;
 
@@ -12,7 +14,7 @@ const BEFORE: Before = Before {
         (1_577_302, 0x8C1F_123F_7319_0C06),
         (3_675_172, 0x6675_5CF4_C2B8_1B01),
     ],
-    new_calls: 0x14..=0x14,
+    is_new: |call, _| call.number() == 0x14,
 };
 
 #[test]

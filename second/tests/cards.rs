@@ -2,6 +2,9 @@
 //! what must hold on any card.
 //! Follows document 02, request 1.
 
+mod any_cards;
+
+use any_cards::{damaged, good_card};
 use second::card::{find, good, put};
 use second::random::Random;
 
@@ -357,27 +360,12 @@ fn any_record(random: &mut Random) -> Vec<u8> {
 }
 
 fn any_good_card(random: &mut Random) -> Vec<u8> {
-    let mut slots: Vec<Vec<u8>> = Vec::new();
-    for _ in 0..random.below(9) {
-        let record = any_record(random);
-        let there = slots.iter().any(|slot| slot[..3] == record[..3]);
-        let empty = there || random.below(4) == 0;
-        slots.push(if empty { vec![0; 16] } else { record });
-    }
-    slots.concat()
+    good_card(random, any_record, 9, 4)
 }
 
-/// A good card with up to two bytes changed, or cut, or lengthened.
 fn any_card(random: &mut Random) -> Vec<u8> {
-    let mut card = any_good_card(random);
-    for _ in 0..random.below(3) {
-        match card.len() {
-            0 => card.push(random.byte()),
-            length if random.below(8) == 0 => card.truncate(length - 1),
-            length => card[random.below(length)] = random.byte(),
-        }
-    }
-    card
+    let card = any_good_card(random);
+    damaged(random, card)
 }
 
 fn slots(card: &[u8]) -> Vec<&[u8]> {

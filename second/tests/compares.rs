@@ -2,8 +2,10 @@
 //! what must hold for any two.
 //! Follows document 02, request 6.
 
+mod any_cards;
 mod compared_by_pairs;
 
+use any_cards::{damaged, good_card};
 use compared_by_pairs::list;
 use second::card::{find, good, put};
 use second::compare::compare;
@@ -243,14 +245,7 @@ fn any_record(random: &mut Random) -> Vec<u8> {
 }
 
 fn any_good_card(random: &mut Random) -> Vec<u8> {
-    let mut slots: Vec<Vec<u8>> = Vec::new();
-    for _ in 0..random.below(12) {
-        let record = any_record(random);
-        let there = slots.iter().any(|slot| slot[..3] == record[..3]);
-        let empty = there || random.below(5) == 0;
-        slots.push(if empty { vec![0; 16] } else { record });
-    }
-    slots.concat()
+    good_card(random, any_record, 12, 5)
 }
 
 /// Any two good cards, and the list of what they differ in.
@@ -364,17 +359,9 @@ fn refused_under_the_length_of_the_list_and_done_from_it_on() {
     }
 }
 
-/// A good card with up to two bytes changed, or cut.
 fn any_card(random: &mut Random) -> Vec<u8> {
-    let mut card = any_good_card(random);
-    for _ in 0..random.below(3) {
-        match card.len() {
-            0 => card.push(random.byte()),
-            length if random.below(8) == 0 => card.truncate(length - 1),
-            length => card[random.below(length)] = random.byte(),
-        }
-    }
-    card
+    let card = any_good_card(random);
+    damaged(random, card)
 }
 
 #[test]

@@ -2,8 +2,8 @@
 //! those of the ciphers and of records, and the cuts, with every block computed by the C
 //! entry and the definition of CBC alone, and those of seals with every seal computed by
 //! the one block call and the steps of CMAC.
-//! Follows document 02, requests 1 to 3, 5 and 6, document 01, 'Marked cases', its last paragraph,
-//! and the definitions of CBC in NIST SP 800-38A and of CMAC in SP 800-38B.
+//! Follows document 02, requests 1 to 3 and 5 to 7, document 01, 'Marked cases', its last
+//! paragraph, and the definitions of CBC in NIST SP 800-38A and of CMAC in SP 800-38B.
 
 mod cmac_by_bytes;
 
@@ -12,6 +12,8 @@ use second::bytes::{part, xor, Block};
 use second::cipher::{encipher_block, set_up};
 use second::edges::{cards, ciphers, compare, cuts, records, seals};
 use second::entry::entry;
+use second::noekeon::{DESIGNERS, EARLIER};
+use second::{e2, hierocrypt3};
 
 const SAID_OF_CARDS: &str = "\
 no bytes: good yes
@@ -149,6 +151,39 @@ fn said_of_key(cipher: u64, length: usize) -> String {
     )
 }
 
+/// What is said of each cipher's blank keys: `<17>` stands for the answer to a key length
+/// that only ciphers 1 and 2 have, `<first>`, `<last>` and `<used>` for the block under the
+/// key or the schedule that the line is about, and `<ee>` for an output as it was.
+const SAID_OF_BLANK_KEYS: &str = "  \
+  a key of 15 bytes, each ff: answer 2; a block under it: answer 5, output <ee>
+  a key of 16 bytes, each ff: answer 17; a block under it: answer 5, output <ee>
+  a key of 24 bytes, each ff: answer <17>; a block under it: answer 5, output <ee>
+  a key of 32 bytes, each ff: answer <17>; a block under it: answer 5, output <ee>
+  a key of 16 bytes, each 00: answer 17; a block under it: answer 5, output <ee>
+  a key of 16 bytes, each ff but the first, fe: answer 0; a block under it: answer 0, output <first>
+  a key of 16 bytes, each ff but the last, fe: answer 0; a block under it: answer 0, output <last>
+  a schedule for keys of 16 bytes, each used byte ff: a block under it: answer 0, output <used>
+";
+
+fn said_of_blank_keys(cipher: u64) -> String {
+    let block = *b"sixteen letters.";
+    let ones = u128::MAX.to_be_bytes();
+    let first = (u128::MAX - (1 << 120)).to_be_bytes();
+    let last = (u128::MAX - 1).to_be_bytes();
+    let used = match cipher {
+        1 => hierocrypt3::encipher(&[0xFF; 224], 6, block),
+        2 => e2::encipher(&[0xFF; 256], block),
+        3 => DESIGNERS.encipher(ones, block),
+        _ => EARLIER.encipher(ones, block),
+    };
+    SAID_OF_BLANK_KEYS
+        .replace("<17>", if cipher < 3 { "17" } else { "2" })
+        .replace("<first>", &hex(worked(cipher, 1, &first, block)))
+        .replace("<last>", &hex(worked(cipher, 1, &last, block)))
+        .replace("<used>", &hex(used))
+        .replace("<ee>", &hex(AS_IT_WAS))
+}
+
 /// The second block of the message ends with its first letter once more.
 fn said_of_streams(cipher: u64) -> String {
     let key = b"0123456789abcdef";
@@ -166,7 +201,8 @@ fn said_of_streams(cipher: u64) -> String {
 fn said_of_cipher(cipher: u64) -> String {
     let heading = format!("cipher {cipher}\n");
     let keys = [15, 16, 17, 24, 32, 33].map(|length| said_of_key(cipher, length));
-    [heading, keys.concat(), said_of_streams(cipher)].concat()
+    let blank = said_of_blank_keys(cipher);
+    [heading, keys.concat(), blank, said_of_streams(cipher)].concat()
 }
 
 #[test]

@@ -1,14 +1,15 @@
 //! Each refusal exactly when the paper says, the first in order where several apply,
 //! and nothing changed by it.
 //! Follows document 01, 'Refusal numbers' and 'The two records', and document 02,
-//! request 2, for number 4.
+//! request 2, for number 4, and request 7, for blank keys.
 
-use second::cipher::{decipher_block, encipher_block, set_up, used, Schedule};
+use second::cipher::{decipher_block, encipher_block, schedule_of, set_up, used, Schedule};
 use second::entry::entry;
 use second::random::Random;
 use second::replay::ciphers::{ALL, LEGAL};
 use second::replay::faults::{any_schedule, any_stream, bad_schedules, bad_streams};
 use second::replay::script::DIRECTIONS;
+use second::seal;
 use second::stream::{feed, finish, start, Stream};
 
 /// All sets of broken rules, each as which of the `order` are broken, with the answer
@@ -32,25 +33,128 @@ fn pick<T: Copy>(random: &mut Random, broken: bool, bad: &[T], good: T) -> T {
 }
 
 #[test]
-fn set_up_refuses_1_then_2() {
+fn set_up_refuses_1_then_2_then_17() {
     let random = &mut Random::seeded(41);
     for &cipher in ALL.numbers {
         for length in [0, 1, 15, 16, 17, 23, 24, 25, 31, 32, 33, 272, 280, 288] {
-            let back = set_up(cipher, &random.bytes(length));
-            let expected = match (cipher, length) {
-                (1 | 2, 16 | 24 | 32) | (3 | 4, 16) => 0,
-                (1..=4, _) => 2,
-                _ => 1,
-            };
-            assert_eq!(back.answer.number(), expected, "{cipher} {length}");
-            if expected == 0 {
-                assert_eq!(u64::from(back.schedule.cipher), cipher);
-                assert_eq!(usize::from(back.schedule.key_length), length);
-                assert!(!back.schedule.is_bad());
-            } else {
-                assert_eq!(back.schedule, Schedule::ZERO);
-                assert!(back.schedule.is_bad());
+            for blank in [false, true] {
+                let key = any_key(random, length, blank);
+                let expected = match (cipher, length) {
+                    (1 | 2, 16 | 24 | 32) | (3 | 4, 16) => 17 * u8::from(blank),
+                    (1..=4, _) => 2,
+                    _ => 1,
+                };
+                is_set_up(cipher, &key, expected);
             }
+        }
+    }
+}
+
+fn any_key(random: &mut Random, length: usize, blank: bool) -> Vec<u8> {
+    match blank {
+        true => vec![random.byte(); length],
+        false => random.bytes(length),
+    }
+}
+
+#[track_caller]
+fn is_set_up(cipher: u64, key: &[u8], expected: u8) {
+    let back = set_up(cipher, key);
+    assert_eq!(back.answer.number(), expected, "{cipher} {}", key.len());
+    if expected == 0 {
+        assert_eq!(u64::from(back.schedule.cipher), cipher);
+        assert_eq!(usize::from(back.schedule.key_length), key.len());
+        assert!(!back.schedule.is_bad());
+    } else {
+        assert_eq!(back.schedule, Schedule::ZERO);
+        assert!(back.schedule.is_bad());
+    }
+}
+
+#[test]
+fn a_key_of_any_one_byte_is_refused_with_17_at_every_legal_length_of_every_cipher() {
+    for (cipher, key_length) in LEGAL {
+        for byte in 0..=255 {
+            is_set_up(cipher.into(), &vec![byte; key_length.into()], 17);
+        }
+    }
+}
+
+#[test]
+fn a_key_in_which_one_byte_differs_is_taken_wherever_it_stands() {
+    let random = &mut Random::seeded(50);
+    for (cipher, key_length) in LEGAL {
+        for place in 0..key_length.into() {
+            for difference in [0x01, 0x80, 0xFF, random.mark()] {
+                let mut key = any_key(random, key_length.into(), true);
+                key[place] ^= difference;
+                is_set_up(cipher.into(), &key, 0);
+                assert_eq!(
+                    set_up(cipher.into(), &key).schedule,
+                    schedule_of(cipher, &key)
+                );
+                let back = entry(cipher.into(), 1, &key, &[0; 16], &[0; 16]);
+                assert_eq!(back.answer.number(), 0);
+            }
+        }
+    }
+}
+
+/// Two halves of a byte each, or bytes that take turns, are no blank key either.
+#[test]
+fn a_key_of_two_byte_values_is_taken_however_they_lie() {
+    let random = &mut Random::seeded(51);
+    for (cipher, key_length) in LEGAL {
+        for _ in 0..200 {
+            let values = [random.byte(), random.byte()];
+            let length = usize::from(key_length);
+            let key: Vec<u8> = (0..length).map(|_| random.one_of(&values)).collect();
+            let blank = key.windows(2).all(|two| two[0] == two[1]);
+            is_set_up(cipher.into(), &key, 17 * u8::from(blank));
+        }
+    }
+}
+
+#[test]
+fn an_entry_that_refuses_a_blank_key_writes_nothing() {
+    let random = &mut Random::seeded(52);
+    for (cipher, key_length) in LEGAL {
+        for byte in 0..=255 {
+            let key = vec![byte; key_length.into()];
+            let (direction, room) = (random.one_of(&[0, 1, 2, 3]), random.below(40));
+            let (block, out) = (random.bytes(room % 2 + 15), random.bytes(room));
+            let back = entry(cipher.into(), direction, &key, &block, &out);
+            assert_eq!((back.answer.number(), back.out), (17, out));
+        }
+    }
+}
+
+/// Any value of a used byte is legal, and so is the same value for all of them.
+#[test]
+fn no_call_asks_whether_the_round_keys_of_a_schedule_are_blank() {
+    for (cipher, key_length) in LEGAL {
+        for byte in 0..=255 {
+            let round_keys = vec![byte; used(cipher, key_length)];
+            let schedule = Schedule::with(cipher, key_length, &round_keys);
+            assert!(!schedule.is_bad());
+            for call in [encipher_block, decipher_block] {
+                assert_eq!(call(&schedule, &[7; 16], &[0; 16]).answer.number(), 0);
+            }
+            assert_eq!(start(&schedule, 1, &[7; 16]).answer.number(), 0);
+            assert_eq!(seal::start(&schedule).answer.number(), 0);
+        }
+    }
+}
+
+/// The schedule of a blank key is good though no set-up gives it.
+#[test]
+fn the_schedule_of_a_blank_key_is_good() {
+    for (cipher, key_length) in LEGAL {
+        for byte in 0..=255 {
+            let schedule = schedule_of(cipher, &vec![byte; key_length.into()]);
+            assert!(!schedule.is_bad());
+            let out = encipher_block(&schedule, &[7; 16], &[0; 16]).out;
+            assert_eq!(decipher_block(&schedule, &out, &[0; 16]).out, [7; 16]);
         }
     }
 }
@@ -165,17 +269,18 @@ fn finish_refuses_6_then_7_then_10() {
 }
 
 #[test]
-fn the_entry_refuses_1_then_2_then_4_then_11_then_9() {
+fn the_entry_refuses_1_then_2_then_17_then_4_then_11_then_9() {
     let random = &mut Random::seeded(46);
     for (cipher, key_length) in LEGAL {
-        for ([number, key, direction, block, room], expected) in sets_of([1, 2, 4, 11, 9]) {
+        for (broken, expected) in sets_of([1, 2, 17, 4, 11, 9]) {
+            let [number, key, blank, direction, block, room] = broken;
             let cipher = pick(random, number, ALL.illegal, cipher.into());
             let length = pick(random, key, &[0, 15, 17, 33], key_length.into());
             let right = random.one_of(&[1, 2]);
             let direction = pick(random, direction, &[0, 3, 257, 258], right);
             let block = pick(random, block, &[0, 15, 17, 32], 16);
             let room = pick(random, room, &[0, 1, 15], 16);
-            let (key, block) = (random.bytes(length), random.bytes(block));
+            let (key, block) = (any_key(random, length, blank), random.bytes(block));
             let out = random.bytes(room);
             let back = entry(cipher, direction, &key, &block, &out);
             assert_eq!(back.answer.number(), expected);
@@ -188,7 +293,7 @@ fn the_entry_refuses_1_then_2_then_4_then_11_then_9() {
 fn the_entry_knows_numbers_by_all_their_bytes() {
     for &cipher in ALL.numbers {
         for direction in DIRECTIONS {
-            let back = entry(cipher, direction, &[7; 16], &[0; 16], &[0; 16]);
+            let back = entry(cipher, direction, b"0123456789abcdef", &[0; 16], &[0; 16]);
             let expected = match (cipher, direction) {
                 (1..=4, 1 | 2) => 0,
                 (1..=4, _) => 4,

@@ -26,7 +26,7 @@ fn the_committed_files_are_what_is_written_today() {
     let script = script(Extent::Whole);
     assert!(committed("script") == script, "the script differs");
     assert!(committed("answers") == run(&script), "the answers differ");
-    assert!(script.len() < 1_930_000 && run(&script).len() < 3_750_000);
+    assert!(script.len() < 2_120_000 && run(&script).len() < 3_980_000);
 }
 
 #[test]
@@ -198,13 +198,13 @@ fn every_answer_of_every_call_occurs() {
         }
     }
     let expected = BTreeMap::from([
-        (1, BTreeSet::from([0, 1, 2])),
+        (1, BTreeSet::from([0, 1, 2, 17])),
         (2, BTreeSet::from([0, 5, 9, 11])),
         (3, BTreeSet::from([0, 5, 9, 11])),
         (4, BTreeSet::from([0, 3, 4, 5])),
         (5, BTreeSet::from([0, 6, 7, 8, 9])),
         (6, BTreeSet::from([0, 6, 7, 10])),
-        (7, BTreeSet::from([0, 1, 2, 4, 9, 11])),
+        (7, BTreeSet::from([0, 1, 2, 4, 9, 11, 17])),
         (0x0A, BTreeSet::from([0, 1])),
         (0x0B, BTreeSet::from([0])),
         (0x0C, BTreeSet::from([0, 12, 13, 14])),

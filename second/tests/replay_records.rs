@@ -356,17 +356,14 @@ fn a_record_taken_up_and_laid_down_again_gives_itself() {
     assert!(number > 400, "{number}");
 }
 
-/// Pieces are fed, and streams finished, that were taken up.
+/// Pieces are fed, and streams finished, that were taken up. The part ends where cards are
+/// compared.
 #[test]
 fn the_part_has_its_calls() {
     let all = calls(&script(Extent::Whole));
-    let first = all.iter().position(|call| call.number() == 0x12).unwrap();
-    let number_of = |number: u8| {
-        all[first..]
-            .iter()
-            .filter(|call| call.number() == number)
-            .count()
-    };
+    let first = |number: u8| all.iter().position(|call| call.number() == number).unwrap();
+    let part = &all[first(0x12)..first(0x14)];
+    let number_of = |number: u8| part.iter().filter(|call| call.number() == number).count();
     for (call, at_least) in [(5, 900), (6, 100), (0x12, 1500), (0x13, 2500)] {
         assert!(number_of(call) >= at_least, "{call}: {}", number_of(call));
     }

@@ -1,7 +1,7 @@
 //! Deciphering undoes enciphering, and the reverse, for every schedule that isn't bad.
 //! Follows document 01, 'The two records', and document 02, request 2.
 
-use second::cipher::{decipher_block, encipher_block, set_up, used, Schedule};
+use second::cipher::{decipher_block, encipher_block, schedule_of, set_up, used, Schedule};
 use second::entry::entry;
 use second::random::Random;
 use second::refusal::Answer;
@@ -59,9 +59,9 @@ fn the_two_directions_differ() {
 fn the_earlier_noekeon_under_the_zero_key_cannot_tell_directions_apart() {
     let random = &mut Random::seeded(34);
     let block = random.array();
-    let earlier = set_up(4, &[0; 16]).schedule;
+    let earlier = schedule_of(4, &[0; 16]);
     assert_eq!(earlier.encipher(block), earlier.decipher(block));
-    let designers = set_up(3, &[0; 16]).schedule;
+    let designers = schedule_of(3, &[0; 16]);
     assert_ne!(designers.encipher(block), designers.decipher(block));
 }
 

@@ -153,7 +153,7 @@ fn any_other_length_is_a_no() {
 #[test]
 fn the_empty_message_has_a_seal() {
     for cipher in ALL.legal_numbers() {
-        let schedule = set_up(cipher.into(), &[7; 16]).schedule;
+        let schedule = set_up(cipher.into(), b"0123456789abcdef").schedule;
         let seal = start(&schedule).seal;
         let expected = defined(&schedule, &[]);
         assert_eq!(sealed(&seal), expected);

@@ -1,9 +1,11 @@
 //! Document 002's three vectors: the print, the settled digits, and why; and four of the
 //! designers' Noekeon from outside.
-//! Follows document 002, section 4, and document 01, 'Marked cases', its last paragraph.
+//! Follows document 002, section 4, document 01, 'Marked cases', its last paragraph, and
+//! document 02, request 7.
 
 use second::bytes::{part, Block};
-use second::cipher;
+use second::cipher::{self, decipher_block, encipher_block, schedule_of};
+use second::entry::entry;
 use second::hierocrypt3::{decipher, encipher, keys::set_up, rounds};
 use second::replay::vectors::{NOEKEON_VECTORS, VECTORS};
 
@@ -275,10 +277,43 @@ fn read_as(printed: char) -> char {
 fn number_3_gives_the_vectors_of_the_designers_noekeon_and_number_4_does_not() {
     for vector in &NOEKEON_VECTORS {
         let (plaintext, ciphertext) = (vector.plaintext_block(), vector.ciphertext_block());
-        let under = |number| cipher::set_up(number, &vector.key_bytes()).schedule;
+        let under = |number| schedule_of(number, &vector.key_bytes());
         assert_eq!(under(3).encipher(plaintext), ciphertext);
         assert_eq!(under(3).decipher(ciphertext), plaintext);
         assert_ne!(under(4).encipher(plaintext), ciphertext);
         assert_ne!(under(4).decipher(ciphertext), plaintext);
+    }
+}
+
+/// Zeros under zeros and ones under ones: set-up and entry refuse the keys.
+#[test]
+fn vectors_with_blank_keys_are_run_on_the_block_calls_with_a_schedule_record() {
+    let blank = |key: &[u8]| key == [key[0]; 16];
+    let vectors = NOEKEON_VECTORS.iter();
+    let vectors: Vec<_> = vectors
+        .filter(|vector| blank(&vector.key_bytes()))
+        .collect();
+    assert_eq!(vectors.len(), 2);
+    for vector in vectors {
+        let key = vector.key_bytes();
+        let (plaintext, ciphertext) = (vector.plaintext_block(), vector.ciphertext_block());
+        assert_eq!(cipher::set_up(3, &key).answer.number(), 17);
+        let refused = entry(3, 1, &key, &plaintext, &[0xEE; 16]);
+        assert_eq!(
+            (refused.answer.number(), &refused.out[..]),
+            (17, &[0xEE; 16][..])
+        );
+        let schedule = schedule_of(3, &key);
+        assert_eq!(schedule.round_keys[..16], key);
+        let enciphered = encipher_block(&schedule, &plaintext, &[0; 16]);
+        assert_eq!(
+            (enciphered.answer.number(), &enciphered.out[..]),
+            (0, &ciphertext[..])
+        );
+        let deciphered = decipher_block(&schedule, &ciphertext, &[0; 16]);
+        assert_eq!(
+            (deciphered.answer.number(), &deciphered.out[..]),
+            (0, &plaintext[..])
+        );
     }
 }

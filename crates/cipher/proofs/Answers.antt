@@ -1,6 +1,6 @@
 -- The answers, one law for each outcome, in the order in which the code comes to it.
 use mathlib.Core.Path.{_≡_, refl}
-use mathlib.Core.Bool.{Bool, true, false, not, true≢false}
+use mathlib.Core.Bool.{Bool, true, false, not, _&&_, true≢false}
 use mathlib.Core.List.{List, _++_}
 use Prim.Native.Nat.{ℕ, _≤_}
 use lib.Dec.{eqb, ltb}
@@ -10,9 +10,12 @@ use Rattle.laws.specs.Choice.{choose}
 use Rattle.runs.specs.Zeros.{zeros}
 use Rattle.refusals.specs.Refusals as refusal
 use Rattle.refusals.proofs.Clear.{set-up-clear, block-clear}
+use Rattle.refusals.proofs.Behind.{set-up-looked}
 use Rattle.cipher_numbers.specs.Ciphers.{number, isCipher, isLength, padded}
+use Rattle.cipher_numbers.specs.Blank.{blank}
+use Rattle.cipher_numbers.proofs.Legal.{legal-cipher}
 use Rattle.cipher.specs.Schedule.{scheduleOf, bad, zeroSchedule}
-use Rattle.cipher.specs.Calls.{setUpRefusal, schedule, setUpAs, setUp, blockRefusal, blockOut}
+use Rattle.cipher.specs.Calls.{setUpRefusal, Usable, schedule, setUpAs, setUp, blockRefusal, blockOut}
 use Rattle.cipher.specs.declared.Schedule.{Schedule}
 use Rattle.cipher.specs.declared.SetUp.{SetUp}
 
@@ -45,16 +48,27 @@ module _ (s : Schedule) where
 
 -- ---- set-up
 module _ (n : ℕ) (key : List ℕ) where
+  -- the bytes of a key are looked at only where its length is legal
+  pub set-up-looked-at : refusal.setUpOrder (not (isCipher n)) (not (isLength n (length key))) (isLength n (length key) && blank key) ≡ setUpRefusal n key
+  unfolding setUpRefusal
+  set-up-looked-at = set-up-looked (not (isCipher n)) (isLength n (length key)) (blank key)
+
   pub set-up-refused : (k : ℕ) → k ≡ setUpRefusal n key → (k ≡ refusal.done → ⊥) → setUpAs k zeroSchedule ≡ setUp n key
   unfolding setUp
   set-up-refused k e z = rw (← e, ne-eqb _ _ z)
 
-  -- an accepted key is legal
-  pub accepted-key : setUpRefusal n key ≡ refusal.done → isLength n (length key) ≡ true
+  -- the accepted keys are the usable ones
+  pub accepted-key : setUpRefusal n key ≡ refusal.done → Usable n key
   unfolding setUpRefusal
-  accepted-key e = not-false _ (set-up-clear (not (isCipher n)) (not (isLength n (length key))) e .1 .0)
+  accepted-key e =
+      let c = set-up-clear (not (isCipher n)) (not (isLength n (length key))) (blank key) e in
+      record { legal = not-false _ (c .1 .0); not-blank = c .1 .1 .0 }
 
-  -- a record of such fields is what set-up returns for a legal key
+  pub usable-accepted : Usable n key → setUpRefusal n key ≡ refusal.done
+  unfolding setUpRefusal
+  usable-accepted k = rw (legal-cipher n (length key) (k .legal), k .legal, k .not-blank)
+
+  -- a record of such fields is what set-up returns for a usable key
   pub set-up-done : setUpRefusal n key ≡ refusal.done → (keys : List ℕ) (c l : ℕ)
       → keys ≡ padded (number n .roundKeys key) → c ≡ n → l ≡ length key → setUpAs refusal.done (scheduleOf keys c l) ≡ setUp n key
   unfolding setUp schedule

@@ -1,5 +1,6 @@
--- What set-up and one block answer, return and write, on any input: 01, 'Refusal numbers'.
-use mathlib.Core.Bool.{not}
+-- What set-up and one block answer, return and write, on any input: 01, 'Refusal numbers', and 02, request 7.
+use mathlib.Core.Path.{_≡_}
+use mathlib.Core.Bool.{true, false, not}
 use mathlib.Core.List.{List, _++_}
 use Prim.Native.Nat.{ℕ}
 use lib.Dec.{eqb, ltb}
@@ -7,15 +8,21 @@ use lib.ListN.{length, drop}
 use Rattle.laws.specs.Choice.{choose}
 use Rattle.refusals.specs.Refusals.{done, setUpOrder, blockOrder}
 use Rattle.cipher_numbers.specs.Ciphers.{number, isCipher, isLength, padded}
+use Rattle.cipher_numbers.specs.Blank.{blank}
 use Rattle.cipher.specs.Schedule.{scheduleOf, bad, zeroSchedule}
 use Rattle.cipher.specs.declared.Schedule.{Schedule}
 use Rattle.cipher.specs.declared.SetUp.{SetUp}
 
 -- ---- set-up
 unfoldable pub setUpRefusal : ℕ → List ℕ → ℕ
-setUpRefusal n key = setUpOrder (not (isCipher n)) (not (isLength n (length key)))
+setUpRefusal n key = setUpOrder (not (isCipher n)) (not (isLength n (length key))) (blank key)
 
--- the schedule of a legal key
+-- a key that set-up takes
+pub record Usable (n : ℕ) (key : List ℕ) : Type 0 where
+  pub legal : isLength n (length key) ≡ true
+  pub not-blank : blank key ≡ false
+
+-- the schedule of a legal key, blank or not
 unfoldable pub schedule : ℕ → List ℕ → Schedule
 schedule n key = scheduleOf (padded (number n .roundKeys key)) n (length key)
 

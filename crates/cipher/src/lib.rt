@@ -1,6 +1,7 @@
-// Whichever cipher: the schedule record, set-up and one block (01, 'The two records' and 'Refusal numbers').
+// Whichever cipher: the schedule record, set-up and one block (01, 'The two records' and 'Refusal numbers'; 02, request 7).
 use blocks_lent::Way;
 use cipher_blocks::alone;
+use cipher_numbers::blank;
 ghost use mathlib.Core.Path.{_≡_};
 ghost use lib.ListN.{length};
 ghost use Rattle.cipher.specs.Schedule.{scheduleOf, bad, zeroSchedule, inDirection};
@@ -65,7 +66,8 @@ fn set_up_refusal(cipher: u64, key: &[u8]) -> u8
 {
     let unknown = !cipher_numbers::is_cipher(cipher);
     let length = !cipher_numbers::is_length(cipher, key.len());
-    refusals::set_up::first(unknown, length)
+    let blank = blank::is_legal_and_blank(cipher, key);
+    refusals::set_up::first(unknown, length, blank)
 }
 
 // The schedule of a key, for the cipher of a number.

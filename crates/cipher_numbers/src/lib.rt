@@ -1,4 +1,6 @@
 // Ciphers and directions by number (01, 'What is built'; 02, request 2): their names in code, what is legal, and the round keys of a key.
+pub mod blank;
+
 ghost use mathlib.Core.Path.{_≡_};
 ghost use mathlib.Core.Bool.{true};
 ghost use mathlib.Core.List.{[], _∷_};

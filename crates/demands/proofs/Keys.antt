@@ -25,7 +25,7 @@ zeros-all : (l : List ℕ) → ((j : ℕ) → j < length l → getD l j 0 ≡ 0)
 zeros-all [] h = refl
 zeros-all (x ∷ l) h = rw (eq-eqb x 0 (h 0 (omega arith))) (zeros-all l (λ j k. h (suc j) (omega arith)))
 
-zeros-behind : (keys : List ℕ) (u : ℕ) → length keys ≤ u → zeros (drop u (padded keys)) ≡ true
+pub zeros-behind : (keys : List ℕ) (u : ℕ) → length keys ≤ u → zeros (drop u (padded keys)) ≡ true
 zeros-behind keys u h =
     zeros-all (drop u (padded keys))
     (λ j k.

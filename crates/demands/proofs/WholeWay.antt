@@ -1,5 +1,5 @@
--- The whole way: for every legal key, first block and direction, set-up and start accept, and however the pieces are cut, they write the CBC of the cipher's own
--- written definition under the round keys that its definition makes of the key.
+-- The whole way: for every legal key that isn't blank, first block and direction, set-up and start accept, and however the pieces are cut, they write the CBC of
+-- the cipher's own written definition under the round keys that its definition makes of the key.
 use mathlib.Core.Path.{_≡_, ap, _∙_}
 use mathlib.Core.Bool.{true}
 use mathlib.Core.List.{List}
@@ -8,33 +8,33 @@ use lib.ListN.{length}
 use borrow.Author.Tests.{eq-eqb}
 use Rattle.refusals.specs.Refusals.{done}
 use Rattle.cbc.specs.Cbc.{answer}
-use Rattle.cipher_numbers.specs.Ciphers.{number, isLength, isDirection, padded}
-use Rattle.cipher_numbers.proofs.Legal.{legal-cipher}
+use Rattle.cipher_numbers.specs.Ciphers.{number, isDirection, padded}
 use Rattle.cipher.specs.Schedule.{enciphered, deciphered}
-use Rattle.cipher.specs.Calls.{setUpRefusal, schedule, setUp}
+use Rattle.cipher.specs.Calls.{Usable, schedule, setUp}
 use Rattle.cipher.specs.declared.Schedule.{Schedule}
+use Rattle.cipher.proofs.Answers.{usable-accepted}
 use Rattle.stream.specs.Calls.{startRefusal, start}
 use Rattle.stream.specs.declared.Stream.{Stream}
 use Rattle.demands.specs.Demand3.{Call, acceptedBytes, writtenBytes}
 use Rattle.demands.proofs.Keys.{set-up-good}
 use Rattle.demands.proofs.AnyCut.{written-is}
 
--- ---- set-up, of every legal key
-module _ (n : ℕ) (key : List ℕ) (legal : isLength n (length key) ≡ true) where
+-- ---- set-up, of every key that it takes
+module _ (n : ℕ) (key : List ℕ) (usable : Usable n key) where
   pub set-up-accepts : setUp n key .answer ≡ done
-  unfolding setUp setUpRefusal
-  set-up-accepts = rw (legal-cipher n (length key) legal, legal)
+  unfolding setUp
+  set-up-accepts = rw (usable-accepted n key usable)
 
   pub made : setUp n key .schedule ≡ schedule n key
-  unfolding setUp setUpRefusal
-  made = rw (legal-cipher n (length key) legal, legal)
+  unfolding setUp
+  made = rw (usable-accepted n key usable)
 
 -- ---- and a stream
-module _ (n : ℕ) (key : List ℕ) (legal : isLength n (length key) ≡ true) (d : ℕ) (directed : isDirection d ≡ true)
+module _ (n : ℕ) (key : List ℕ) (usable : Usable n key) (d : ℕ) (directed : isDirection d ≡ true)
     (first : List ℕ) (block : length first ≡ 16) where
   pub start-accepts : start (setUp n key .schedule) d first .answer ≡ done
   unfolding start startRefusal
-  start-accepts = rw (made n key legal, set-up-good n key legal, directed, eq-eqb _ _ block)
+  start-accepts = rw (made n key usable, set-up-good n key (usable .legal), directed, eq-eqb _ _ block)
 
   -- the stream that the calls give
   abbrev begun : Stream
@@ -47,4 +47,4 @@ module _ (n : ℕ) (key : List ℕ) (legal : isLength n (length key) ≡ true) (
   unfolding enciphered deciphered schedule
   whole-way cs =
       written-is (setUp n key .schedule) d first start-accepts cs
-      ∙ ap (λ (s : Schedule). answer (enciphered s) (deciphered s) d first (acceptedBytes begun cs)) (made n key legal)
+      ∙ ap (λ (s : Schedule). answer (enciphered s) (deciphered s) d first (acceptedBytes begun cs)) (made n key usable)

@@ -1,28 +1,68 @@
-// 01's edge cases for every cipher, run and shown: a line for each call, with its answer and the bytes of its output afterwards.
+// 01's edge cases for every cipher, and 02's blank keys (request 7), run and shown: a line for each call, with its answer and the bytes of its output afterwards.
+use cipher::Schedule;
 use edge_words::line;
 use edge_words::number;
 use edge_words::say;
 use stream::Stream;
 
-// A key of that length, and a block under what it gives.
-fn key_of(cipher: u64, key: &[u8]) {
+fn block_under(words: &[u8], schedule: Schedule) {
     let mut out = [238u8; 16];
-    let made = cipher::set_up(cipher, key);
-    let answer = cipher::encipher_block(made.schedule, b"sixteen letters.", &mut out);
-    number(b"  a key of ", key.len() as u64);
-    number(b" bytes: answer ", made.answer as u64);
-    number(b"; a block under it: answer ", answer as u64);
+    let answer = cipher::encipher_block(schedule, b"sixteen letters.", &mut out);
+    number(words, answer as u64);
     line(b", output ", &out);
+}
+
+// A key of that length and those bytes, and a block under what it gives.
+fn key_of(cipher: u64, bytes: &[u8], key: &[u8]) {
+    let made = cipher::set_up(cipher, key);
+    number(b"  a key of ", key.len() as u64);
+    say(bytes);
+    number(b": answer ", made.answer as u64);
+    block_under(b"; a block under it: answer ", made.schedule);
 }
 
 fn keys(cipher: u64) {
     let key = *b"0123456789abcdefghijklmnopqrstuvw";
-    key_of(cipher, &key[..15]);
-    key_of(cipher, &key[..16]);
-    key_of(cipher, &key[..17]);
-    key_of(cipher, &key[..24]);
-    key_of(cipher, &key[..32]);
-    key_of(cipher, &key);
+    key_of(cipher, b" bytes", &key[..15]);
+    key_of(cipher, b" bytes", &key[..16]);
+    key_of(cipher, b" bytes", &key[..17]);
+    key_of(cipher, b" bytes", &key[..24]);
+    key_of(cipher, b" bytes", &key[..32]);
+    key_of(cipher, b" bytes", &key);
+}
+
+fn blank_keys(cipher: u64) {
+    let blank = [255u8; 32];
+    key_of(cipher, b" bytes, each ff", &blank[..15]);
+    key_of(cipher, b" bytes, each ff", &blank[..16]);
+    key_of(cipher, b" bytes, each ff", &blank[..24]);
+    key_of(cipher, b" bytes, each ff", &blank);
+    key_of(cipher, b" bytes, each 00", &[0u8; 16]);
+    let mut key = [255u8; 16];
+    key[0] = 254;
+    key_of(cipher, b" bytes, each ff but the first, fe", &key);
+    key[0] = 255;
+    key[15] = 254;
+    key_of(cipher, b" bytes, each ff but the last, fe", &key);
+}
+
+// No set-up makes it, and none tests it.
+fn blank_schedule(cipher: u8, used: usize) {
+    let mut keys = [255u8; 288];
+    let mut i = used;
+    while i < 288 {
+        keys[i] = 0;
+        i += 1;
+    }
+    let schedule = Schedule {
+        round_keys: keys,
+        cipher,
+        key_length: 16,
+    };
+    block_under(
+        b"  a schedule for keys of 16 bytes, each used byte ff: a block under it: answer ",
+        schedule,
+    );
 }
 
 // A piece's answer, and all of its output.
@@ -120,10 +160,14 @@ fn start(call: &[u8], cipher: u64, direction: u64, first: &[u8]) -> Stream {
     begun.stream
 }
 
-fn cases(cipher: u64) {
+// `used` is the number of the cipher's round key bytes, for keys of 16.
+fn cases(number_of_it: u8, used: usize) {
+    let cipher = number_of_it as u64;
     number(b"cipher ", cipher);
     say(b"\n");
     keys(cipher);
+    blank_keys(cipher);
+    blank_schedule(number_of_it, used);
     let first = *b"the first block.";
     start(b"  start in direction 3: answer ", cipher, 3, &first);
     start(b"  start in direction 257: answer ", cipher, 257, &first);
@@ -136,8 +180,8 @@ fn cases(cipher: u64) {
 }
 
 fn main() {
-    cases(1);
-    cases(2);
-    cases(3);
-    cases(4);
+    cases(1, 224);
+    cases(2, 256);
+    cases(3, 16);
+    cases(4, 16);
 }

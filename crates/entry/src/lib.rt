@@ -1,17 +1,19 @@
-// What C calls: one block, on numbers and byte slices (01, 'What is built'). No schedule record is made, tested or copied for it.
+// What C calls: one block, on numbers and byte slices (01, 'What is built'; 02, request 7). No schedule record is made, tested or copied for it.
 use blocks_lent::Way;
 use cipher_blocks::alone;
+use cipher_numbers::blank;
 ghost use mathlib.Core.Path.{_≡_};
 ghost use Rattle.entry.specs.Entry.{entryRefusal, WorksForC, TellsVersion};
 
-// The refusal of a call with these lengths of key, block and output, or 0.
-pub fn refusal(cipher: u64, direction: u64, key: usize, block: usize, room: usize) -> u8
-    ensures { λ r. ⌜ r ≡ entryRefusal cipher direction key block room ⌝ }
+// The refusal of a call with this key and these lengths of block and output, or 0.
+pub fn refusal(cipher: u64, direction: u64, key: &[u8], block: usize, room: usize) -> u8
+    ensures { λ r. ⌜ r ≡ entryRefusal cipher direction (now (key .entry)) block room ⌝ }
 {
     let unknown = !cipher_numbers::is_cipher(cipher);
-    let length = !cipher_numbers::is_length(cipher, key);
+    let length = !cipher_numbers::is_length(cipher, key.len());
+    let blank = blank::is_legal_and_blank(cipher, key);
     let undirected = !cipher_numbers::is_direction(direction);
-    refusals::entry::first(unknown, length, undirected, block != 16, room < 16)
+    refusals::entry::first(unknown, length, blank, undirected, block != 16, room < 16)
 }
 
 // One block enciphered (direction 1) or deciphered (2) under a key, to the front of the output. 0 is done.
@@ -25,7 +27,7 @@ pub extern "C" fn tlilcueyoh_block(
 ) -> u64
     ensures { λ r. ⌜ WorksForC cipher direction (now (key .entry)) (now (input .entry)) (now (output .entry)) r (now (output .exit)) ⌝ }
 {
-    let no = refusal(cipher, direction, key.len(), input.len(), output.len());
+    let no = refusal(cipher, direction, key, input.len(), output.len());
     if no != refusals::DONE {
         return no as u64;
     }
@@ -44,5 +46,5 @@ pub extern "C" fn tlilcueyoh_block(
 pub extern "C" fn tlilcueyoh_version() -> u64
     ensures { λ r. ⌜ TellsVersion r ⌝ }
 {
-    2
+    3
 }

@@ -52,6 +52,9 @@ pub fn refused(answer: u8, direction: u64, length: u64) {
             length,
             b"; give one of 16, 24 or 32 bytes, for noekeon and noekeon-earlier of 16, two hex digits each\n",
         ),
+        refusals::BLANK_KEY => say(
+            b"the bytes of the key are all equal, which anyone can guess; make another one, as ./recipe --help shows\n",
+        ),
         refusals::FIRST_BLOCK_LENGTH => around(
             b"the first block has a length of ",
             length,

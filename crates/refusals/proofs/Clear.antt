@@ -26,8 +26,8 @@ clear [] n e = tt
 clear ((true, k) ∷ cs) n e = absurd (eqb-false k refusal.done (n .0) e)
 clear ((false, k) ∷ cs) n e = (refl, clear cs (n .1) e)
 
-pub set-up-clear : (c l : Bool) → refusal.setUpOrder c l ≡ refusal.done → Clear (c ∷ l ∷ [])
-set-up-clear c l = clear ((c, refusal.unknownCipher) ∷ (l, refusal.keyLength) ∷ []) (refl, (refl, tt))
+pub set-up-clear : (c l b : Bool) → refusal.setUpOrder c l b ≡ refusal.done → Clear (c ∷ l ∷ b ∷ [])
+set-up-clear c l b = clear ((c, refusal.unknownCipher) ∷ (l, refusal.keyLength) ∷ (b, refusal.blankKey) ∷ []) (refl, (refl, (refl, tt)))
 
 pub block-clear : (s b r : Bool) → refusal.blockOrder s b r ≡ refusal.done → Clear (s ∷ b ∷ r ∷ [])
 block-clear s b r = clear ((s, refusal.badSchedule) ∷ (b, refusal.blockLength) ∷ (r, refusal.noRoom) ∷ []) (refl, (refl, (refl, tt)))
@@ -41,8 +41,11 @@ piece-clear s e l r = clear ((s, refusal.badState) ∷ (e, refusal.closed) ∷ (
 pub finish-clear : (s e h : Bool) → refusal.finishOrder s e h ≡ refusal.done → Clear (s ∷ e ∷ h ∷ [])
 finish-clear s e h = clear ((s, refusal.badState) ∷ (e, refusal.closed) ∷ (h, refusal.bytesHeld) ∷ []) (refl, (refl, (refl, tt)))
 
-pub entry-clear : (c l d b r : Bool) → refusal.entryOrder c l d b r ≡ refusal.done → Clear (c ∷ l ∷ d ∷ b ∷ r ∷ [])
-entry-clear c l d b r = clear ((c, refusal.unknownCipher) ∷ (l, refusal.keyLength) ∷ (d, refusal.direction) ∷ (b, refusal.blockLength) ∷ (r, refusal.noRoom) ∷ []) (refl, (refl, (refl, (refl, (refl, tt)))))
+pub entry-clear : (c l k d b r : Bool) → refusal.entryOrder c l k d b r ≡ refusal.done → Clear (c ∷ l ∷ k ∷ d ∷ b ∷ r ∷ [])
+entry-clear c l k d b r =
+    clear
+    ((c, refusal.unknownCipher) ∷ (l, refusal.keyLength) ∷ (k, refusal.blankKey) ∷ (d, refusal.direction) ∷ (b, refusal.blockLength) ∷ (r, refusal.noRoom) ∷ [])
+    (refl, (refl, (refl, (refl, (refl, (refl, tt))))))
 
 pub put-clear : (c r s : Bool) → refusal.putOrder c r s ≡ refusal.done → Clear (c ∷ r ∷ s ∷ [])
 put-clear c r s = clear ((c, refusal.badCard) ∷ (r, refusal.badRecord) ∷ (s, refusal.noSlot) ∷ []) (refl, (refl, (refl, tt)))

@@ -1,4 +1,4 @@
--- The refusals: 01, 'Refusal numbers', and 02, requests 1, 3, 5 and 6. Their numbers, and the order of each call, in which the first that applies is given; 0 is done.
+-- The refusals: 01, 'Refusal numbers', and 02, requests 1, 3 and 5 to 7. Their numbers, and the order of each call, in which the first that applies is given; 0 is done.
 use mathlib.Core.Bool.{Bool}
 use mathlib.Core.List.{List, [], _∷_}
 use Prim.Native.Nat.{ℕ}
@@ -56,14 +56,17 @@ badStreamRecord = 15
 abbrev pub otherSchedule : ℕ
 otherSchedule = 16
 
+abbrev pub blankKey : ℕ
+blankKey = 17
+
 -- ---- the orders: each argument says whether its cause applies
 -- the first of the causes that applies: each says whether it does, and its number
 abbrev pub first : List (Bool × ℕ) → ℕ
 first [] = done
 first (c ∷ cs) = choose (c .0) (c .1) (first cs)
 
-abbrev pub setUpOrder : (cipher length : Bool) → ℕ
-setUpOrder c l = first ((c, unknownCipher) ∷ (l, keyLength) ∷ [])
+abbrev pub setUpOrder : (cipher length blank : Bool) → ℕ
+setUpOrder c l b = first ((c, unknownCipher) ∷ (l, keyLength) ∷ (b, blankKey) ∷ [])
 
 abbrev pub blockOrder : (schedule block room : Bool) → ℕ
 blockOrder s b r = first ((s, badSchedule) ∷ (b, blockLength) ∷ (r, noRoom) ∷ [])
@@ -77,8 +80,9 @@ pieceOrder s e l r = first ((s, badState) ∷ (e, closed) ∷ (l, overLimit) ∷
 abbrev pub finishOrder : (state ended held : Bool) → ℕ
 finishOrder s e h = first ((s, badState) ∷ (e, closed) ∷ (h, bytesHeld) ∷ [])
 
-abbrev pub entryOrder : (cipher length dir block room : Bool) → ℕ
-entryOrder c l d b r = first ((c, unknownCipher) ∷ (l, keyLength) ∷ (d, direction) ∷ (b, blockLength) ∷ (r, noRoom) ∷ [])
+abbrev pub entryOrder : (cipher length blank dir block room : Bool) → ℕ
+entryOrder c l k d b r =
+    first ((c, unknownCipher) ∷ (l, keyLength) ∷ (k, blankKey) ∷ (d, direction) ∷ (b, blockLength) ∷ (r, noRoom) ∷ [])
 
 abbrev pub putOrder : (card «record» slot : Bool) → ℕ
 putOrder c r s = first ((c, badCard) ∷ (r, badRecord) ∷ (s, noSlot) ∷ [])

@@ -1,4 +1,5 @@
 // The C entry: the first of its refusals that applies.
+use crate::BLANK_KEY;
 use crate::BLOCK_LENGTH;
 use crate::DIRECTION;
 use crate::DONE;
@@ -8,14 +9,17 @@ use crate::UNKNOWN_CIPHER;
 ghost use mathlib.Core.Path.{_≡_};
 ghost use Rattle.refusals.specs.Refusals.{entryOrder};
 
-pub fn first(cipher: bool, length: bool, dir: bool, block: bool, room: bool) -> u8
-    ensures { λ r. ⌜ r ≡ entryOrder cipher length dir block room ⌝ }
+pub fn first(cipher: bool, length: bool, blank: bool, dir: bool, block: bool, room: bool) -> u8
+    ensures { λ r. ⌜ r ≡ entryOrder cipher length blank dir block room ⌝ }
 {
     if cipher {
         return UNKNOWN_CIPHER;
     }
     if length {
         return KEY_LENGTH;
+    }
+    if blank {
+        return BLANK_KEY;
     }
     if dir {
         return DIRECTION;

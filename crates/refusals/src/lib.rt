@@ -47,3 +47,5 @@ pub const NO_SLOT: u8 = 14;
 pub const BAD_STREAM_RECORD: u8 = 15;
 
 pub const OTHER_SCHEDULE: u8 = 16;
+
+pub const BLANK_KEY: u8 = 17;

@@ -15,18 +15,18 @@ use Rattle.stream.specs.declared.Stream.{Stream}
 use Rattle.entry.specs.Entry.{entryRefusal, worked}
 
 -- ---- blocks, each by itself: refused as the C entry refuses a block, then with 11 for an input that is no multiple of 16 bytes, then with 9
-unfoldable pub blocksRefusal : ℕ → ℕ → (key input room : ℕ) → ℕ
-blocksRefusal c d k n room =
-    choose (eqb (entryRefusal c d k 16 16) done)
+unfoldable pub blocksRefusal : ℕ → ℕ → List ℕ → (input room : ℕ) → ℕ
+blocksRefusal c d key n room =
+    choose (eqb (entryRefusal c d key 16 16) done)
     (first ((not (eqb (n % 16) 0), blockLength) ∷ (ltb room n, noRoom) ∷ []))
-    (entryRefusal c d k 16 16)
+    (entryRefusal c d key 16 16)
 
 unfoldable pub blocksOut : ℕ → ℕ → List ℕ → List ℕ → List ℕ → List ℕ
 blocksOut c d key x o =
-    choose (eqb (blocksRefusal c d (length key) (length x) (length o)) done) (join (each (worked c d key) (whole x)) ++ drop (length x) o) o
+    choose (eqb (blocksRefusal c d key (length x) (length o)) done) (join (each (worked c d key) (whole x)) ++ drop (length x) o) o
 
 pub record WorksBlocks (cipher direction : ℕ) (key input o : List ℕ) (r : ℕ) (o′ : List ℕ) : Type 0 where
-  pub answered : r ≡ blocksRefusal cipher direction (length key) (length input) (length o)
+  pub answered : r ≡ blocksRefusal cipher direction key (length input) (length o)
   pub left : o′ ≡ blocksOut cipher direction key input o
 
 -- ---- a message through a stream: that of set-up and start, refused or not

@@ -16,7 +16,7 @@ pub extern "C" fn tlilcueyoh_speed_blocks(
 ) -> u64
     ensures { λ r. ⌜ WorksBlocks cipher direction (now (key .entry)) (now (input .entry)) (now (output .entry)) r (now (output .exit)) ⌝ }
 {
-    let no = entry::refusal(cipher, direction, key.len(), 16, 16);
+    let no = entry::refusal(cipher, direction, key, 16, 16);
     if no != refusals::DONE {
         return no as u64;
     }

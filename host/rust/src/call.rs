@@ -1,4 +1,5 @@
-//! Random calls of all kinds: good ones, and ones with any of their parts damaged.
+//! Random calls of all kinds: good ones, ones with a blank key, and ones with any of their
+//! parts damaged.
 
 use second::random::Random;
 
@@ -60,14 +61,23 @@ impl Call {
     }
 }
 
-/// Random bytes, or the same byte throughout.
+/// Random bytes, the same byte throughout, or in all places but one.
 fn some_bytes(random: &mut Random, length: usize) -> Vec<u8> {
     match random.below(16) {
         0 => vec![0; length],
         1 => vec![0xFF; length],
         2 => vec![random.byte(); length],
+        3 => but_one(random, length),
         _ => random.bytes(length),
     }
+}
+
+fn but_one(random: &mut Random, length: usize) -> Vec<u8> {
+    let mut bytes = vec![random.byte(); length];
+    if length > 0 {
+        bytes[random.below(length)] = random.byte();
+    }
+    bytes
 }
 
 /// A number that is legal or next to a legal one, such a number made wide or moved

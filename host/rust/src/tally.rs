@@ -3,7 +3,7 @@
 
 use crate::call::{Call, KINDS};
 
-const REFUSALS: [u64; 5] = [1, 2, 4, 11, 9];
+const REFUSALS: [u64; 6] = [1, 2, 17, 4, 11, 9];
 
 /// Every kind of call comes at least so often.
 const ENOUGH: usize = 1000;

@@ -1,9 +1,9 @@
 //! The edge cases of the ciphers and their streams.
 //! Follows document 01, 'Refusal numbers' and 'Marked cases', its last paragraph, and
-//! document 02, request 2, for numbers 3 and 4.
+//! document 02, request 2, for numbers 3 and 4, and request 7, for blank keys.
 
 use super::{hex, BEFORE};
-use crate::cipher::{encipher_block, set_up, Schedule};
+use crate::cipher::{encipher_block, set_up, used, Schedule};
 use crate::stream::{feed, finish, start, Fed, Stream};
 
 const LONGEST_KEY: &[u8; 33] = b"0123456789abcdefghijklmnopqrstuvw";
@@ -19,7 +19,11 @@ fn of_cipher(cipher: u64) -> String {
     let schedule = set_up(cipher, &LONGEST_KEY[..16]).schedule;
     [
         format!("cipher {cipher}\n"),
-        [15, 16, 17, 24, 32, 33].map(|n| key(cipher, n)).concat(),
+        [15, 16, 17, 24, 32, 33]
+            .map(|n| key(cipher, "", &LONGEST_KEY[..n]))
+            .concat(),
+        blank_keys(cipher),
+        blank_round_keys(cipher),
         starts(&schedule),
         enciphering(&schedule),
         deciphering(&schedule),
@@ -28,15 +32,41 @@ fn of_cipher(cipher: u64) -> String {
 }
 
 /// A refused set-up's schedule is handed in too.
-fn key(cipher: u64, length: usize) -> String {
-    let made = set_up(cipher, &LONGEST_KEY[..length]);
-    let block = encipher_block(&made.schedule, BLOCK, &[BEFORE; 16]);
-    format!(
-        "  a key of {length} bytes: answer {}; a block under it: answer {}, output {}\n",
-        made.answer.number(),
-        block.answer.number(),
-        hex(&block.out)
-    )
+fn key(cipher: u64, bytes: &str, key: &[u8]) -> String {
+    let made = set_up(cipher, key);
+    let (length, answer) = (key.len(), made.answer.number());
+    let block = block_under(&made.schedule);
+    format!("  a key of {length} bytes{bytes}: answer {answer}; {block}")
+}
+
+fn block_under(schedule: &Schedule) -> String {
+    let block = encipher_block(schedule, BLOCK, &[BEFORE; 16]);
+    let (answer, out) = (block.answer.number(), hex(&block.out));
+    format!("a block under it: answer {answer}, output {out}\n")
+}
+
+fn blank_keys(cipher: u64) -> String {
+    let ones = |n| key(cipher, ", each ff", &vec![0xFF; n]);
+    let other = |which: &str, place: usize| {
+        let mut bytes = [0xFF; 16];
+        bytes[place] = 0xFE;
+        key(cipher, &format!(", each ff but the {which}, fe"), &bytes)
+    };
+    [
+        [15, 16, 24, 32].map(ones).concat(),
+        key(cipher, ", each 00", &[0x00; 16]),
+        other("first", 0),
+        other("last", 15),
+    ]
+    .concat()
+}
+
+/// A schedule that no set-up made.
+fn blank_round_keys(cipher: u64) -> String {
+    let cipher = cipher as u8;
+    let schedule = Schedule::with(cipher, 16, &vec![0xFF; used(cipher, 16)]);
+    let block = block_under(&schedule);
+    format!("  a schedule for keys of 16 bytes, each used byte ff: {block}")
 }
 
 fn starts(schedule: &Schedule) -> String {

@@ -7,7 +7,7 @@ use super::entries;
 use super::faults::{any_schedule, bad_schedules};
 use super::script::{room, Script, BLOCK_LENGTHS, KEY_LENGTHS, ROOMS};
 use super::vectors::{Vector, VECTORS};
-use crate::cipher::{is_cipher, set_up, used, Schedule, HIEROCRYPT3};
+use crate::cipher::{is_cipher, schedule_of, used, Schedule, HIEROCRYPT3};
 use crate::random::Random;
 
 pub fn write(script: &mut Script) {
@@ -56,7 +56,7 @@ pub fn legal_keys(script: &mut Script, random: &mut Random, legal: &[(u8, u8)]) 
 /// Enciphers a block, deciphers what comes out, and deciphers another block.
 fn both_ways(script: &mut Script, random: &mut Random, cipher: u8, key: &[u8]) {
     script.set_up(cipher.into(), key);
-    let schedule = set_up(cipher.into(), key).schedule;
+    let schedule = schedule_of(cipher, key);
     back_and_forth(script, random, &schedule);
 }
 

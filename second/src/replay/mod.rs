@@ -2,6 +2,7 @@
 //! writes with the answers to it.
 //! Follows the page on replay: one call after the other, everything that comes back.
 
+mod blanks;
 mod blocks;
 pub mod call;
 mod cards;
@@ -23,7 +24,7 @@ pub mod vectors;
 pub use interpreter::run;
 
 /// How much of the script is wanted: behind the blocks part stand streams, then cards,
-/// then request 2's, then seals, then records, then compares.
+/// then request 2's, then seals, then records, then compares, then blanks.
 #[derive(Clone, Copy, Debug, PartialEq, Eq)]
 pub enum Extent {
     Blocks,
@@ -41,6 +42,7 @@ pub fn script(extent: Extent) -> Vec<u8> {
         seals::write(&mut script);
         records::write(&mut script);
         compares::write(&mut script);
+        blanks::write(&mut script);
     }
     script.bytes
 }

@@ -3,7 +3,7 @@
 
 use super::call::{Buffer, Call};
 use super::record::{schedule_bytes, seal_bytes, stream_bytes};
-use crate::cipher::Schedule;
+use crate::cipher::{is_blank, is_key_length, schedule_of, Schedule};
 use crate::seal::Seal;
 use crate::stream::Stream;
 
@@ -40,7 +40,16 @@ impl Script {
         self.bytes.extend(call.bytes());
     }
 
+    /// Behind a blank key, which is refused, stands the schedule that the definitions make
+    /// of it, so that the calls behind work under it as they did before request 7.
     pub fn set_up(&mut self, cipher: u64, key: &[u8]) {
+        self.set_up_alone(cipher, key);
+        if is_key_length(cipher, key.len()) && is_blank(key) {
+            self.keep_schedule(&schedule_of(cipher as u8, key));
+        }
+    }
+
+    pub fn set_up_alone(&mut self, cipher: u64, key: &[u8]) {
         let key = key.to_vec();
         self.call(Call::SetUp { cipher, key });
     }

@@ -18,7 +18,7 @@ returns c =
     record { returned = c .refused .ensures ∙ set-up-refused _ _ _ (no .before .set-up-refusal .ensures) (no .if1 .taken) }
 
 round-keys-requires : tie.Need-round-keys-requires
-round-keys-requires c κs = accepted-key _ _ (sym (c .before .set-up-refusal .ensures) ∙ c .if1 .left)
+round-keys-requires c κs = accepted-key _ _ (sym (c .before .set-up-refusal .ensures) ∙ c .if1 .left) .legal
 
 cast-t8 : tie.Need-cast-t8
 cast-t8 c = search needs
@@ -30,7 +30,7 @@ returns-2 : tie.Need-returns-2
 returns-2 c =
     let yes = c .before in
     let ok = sym (yes .before .set-up-refusal .ensures) ∙ yes .if1 .left in
-    let legal = accepted-key _ _ ok in
+    let legal = accepted-key _ _ ok .legal in
     let n = legal-number _ _ legal in
     let l = legal-length _ _ legal .1 in
     record { returned = set-up-done _ _ ok _ _ _ (c .round-keys .ensures) (omega arith) (omega arith) }

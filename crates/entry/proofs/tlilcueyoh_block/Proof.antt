@@ -23,12 +23,12 @@ abbrev way : tie.Else1 → Way
 way c = record { cipher = start c .args .cipher; length = length (start c .args .key .now); direction = start c .args .direction }
 
 done : (c : tie.Else1)
-    → entryRefusal (start c .args .cipher) (start c .args .direction) (length (start c .args .key .now)) (length (start c .args .input .now)) (length (start c .args .output .now))
+    → entryRefusal (start c .args .cipher) (start c .args .direction) (start c .args .key .now) (length (start c .args .input .now)) (length (start c .args .output .now))
     ≡ refusal.done
 done c = sym (c .before .refusal .ensures) ∙ c .if1 .left
 
 accepted : (c : tie.Else1)
-    → AcceptedCall (start c .args .cipher) (start c .args .direction) (length (start c .args .key .now)) (length (start c .args .input .now)) (length (start c .args .output .now))
+    → AcceptedCall (start c .args .cipher) (start c .args .direction) (start c .args .key .now) (length (start c .args .input .now)) (length (start c .args .output .now))
 accepted c = accepted-call _ _ _ _ _ (done c)
 
 refusal-requires : tie.Need-refusal-requires

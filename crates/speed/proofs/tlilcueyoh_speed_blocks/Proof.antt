@@ -18,29 +18,29 @@ use Rattle.speed.proofs.tlilcueyoh_speed_blocks.Statement.{statement}
 use Rattle.speed.proofs.tlilcueyoh_speed_blocks.Tie as tie
 
 -- ---- the outcomes
-module _ (c d k n room : ℕ) where
-  unlike : (r : ℕ) → r ≡ entryRefusal c d k 16 16 → (r ≡ refusal.done → ⊥) → r ≡ blocksRefusal c d k n room
+module _ (c d : ℕ) (key : List ℕ) (n room : ℕ) where
+  unlike : (r : ℕ) → r ≡ entryRefusal c d key 16 16 → (r ≡ refusal.done → ⊥) → r ≡ blocksRefusal c d key n room
   unfolding blocksRefusal
   unlike r e z = rw (← e, ne-eqb _ _ z)
 
-  uneven : entryRefusal c d k 16 16 ≡ refusal.done → (n % 16 ≡ 0 → ⊥) → refusal.blockLength ≡ blocksRefusal c d k n room
+  uneven : entryRefusal c d key 16 16 ≡ refusal.done → (n % 16 ≡ 0 → ⊥) → refusal.blockLength ≡ blocksRefusal c d key n room
   unfolding blocksRefusal
   uneven e z = rw (e, ne-eqb _ _ z)
 
-  no-room : entryRefusal c d k 16 16 ≡ refusal.done → n % 16 ≡ 0 → room < n → refusal.noRoom ≡ blocksRefusal c d k n room
+  no-room : entryRefusal c d key 16 16 ≡ refusal.done → n % 16 ≡ 0 → room < n → refusal.noRoom ≡ blocksRefusal c d key n room
   unfolding blocksRefusal
   no-room e z h = rw (e, eq-eqb _ _ z, lt-ltb _ _ h)
 
-  all-done : entryRefusal c d k 16 16 ≡ refusal.done → n % 16 ≡ 0 → n ≤ room → refusal.done ≡ blocksRefusal c d k n room
+  all-done : entryRefusal c d key 16 16 ≡ refusal.done → n % 16 ≡ 0 → n ≤ room → refusal.done ≡ blocksRefusal c d key n room
   unfolding blocksRefusal
   all-done e z h = rw (e, eq-eqb _ _ z, le-ltb _ _ h)
 
 module _ (c d : ℕ) (key x o : List ℕ) where
-  refused : (r : ℕ) → (r ≡ refusal.done → ⊥) → r ≡ blocksRefusal c d (length key) (length x) (length o) → WorksBlocks c d key x o r o
+  refused : (r : ℕ) → (r ≡ refusal.done → ⊥) → r ≡ blocksRefusal c d key (length x) (length o) → WorksBlocks c d key x o r o
   unfolding blocksOut
   refused r z e = record { answered = e; left = rw (← e, ne-eqb _ _ z) }
 
-  put : refusal.done ≡ blocksRefusal c d (length key) (length x) (length o) → join (each (worked c d key) (whole x)) ++ drop (length x) o ≡ blocksOut c d key x o
+  put : refusal.done ≡ blocksRefusal c d key (length x) (length o) → join (each (worked c d key) (whole x)) ++ drop (length x) o ≡ blocksOut c d key x o
   unfolding blocksOut
   put e = rw (← e)
 
@@ -109,7 +109,7 @@ returns-4 c =
     let x = a .input .now in
     let o = a .output .now in
     let e = sym (ok .before .refusal .ensures) ∙ ok .if1 .left in
-    let fine = all-done (a .cipher) (a .direction) (length (a .key .now)) (length x) (length o) e (even .if2 .left) (room .if3 .left) in
+    let fine = all-done (a .cipher) (a .direction) (a .key .now) (length x) (length o) e (even .if2 .left) (room .if3 .left) in
     let w : Way = record { cipher = a .cipher; length = length (a .key .now); direction = a .direction } in
     let long : 16 * (length x / 16) ≡ length x = let z = even .if2 .left in omega arith in
     record {
