@@ -4,7 +4,8 @@ use mathlib.Core.Bool.{Bool, true, false}
 use mathlib.Core.List.{List, [], _∷_}
 use Prim.Native.Nat.{ℕ, zero, suc, _<_}
 use native.Mathlib.Omega.{arith}
-use lib.ListN.{length, getD, drop, replicate, getD-replicate}
+use lib.ListN.{length, getD, replicate, getD-replicate}
+use borrow.Author.Tests.{eq-eqb}
 use Rattle.runs.specs.All.{all}
 use Rattle.runs.proofs.All.{all-are, all-replicate}
 use Rattle.cipher_numbers.specs.Blank.{blank}
@@ -35,7 +36,7 @@ unfolding blank
 none-blank [] h = refl
 none-blank (x ∷ xs) h = absurd (omega arith)
 
-pub by-the-first : (key : List ℕ) → (length key ≡ 0 → ⊥) → all (getD key 0 0) (drop 1 key) ≡ blank key
+pub by-the-first : (key : List ℕ) → (length key ≡ 0 → ⊥) → all (getD key 0 0) key ≡ blank key
 unfolding blank
 by-the-first [] z = absurd (z refl)
-by-the-first (x ∷ xs) z = refl
+by-the-first (x ∷ xs) z = rw (eq-eqb x x refl)

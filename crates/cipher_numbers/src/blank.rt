@@ -6,14 +6,14 @@ ghost use lib.ListN.{length};
 ghost use Rattle.cipher_numbers.specs.Ciphers.{isLength};
 ghost use Rattle.cipher_numbers.specs.Blank.{blank};
 
-// Are the key's bytes all equal?
+// Are the key's bytes all equal? The first is laid beside itself too, since 16 bytes are looked at at once, and 15 one by one.
 fn is_blank(key: &[u8]) -> bool
     ensures { λ r. ⌜ r ≡ blank (now (key .entry)) ⌝ }
 {
     if key.len() == 0 {
         return true;
     }
-    runs::all_from(key, 1, key[0])
+    runs::all_from(key, 0, key[0])
 }
 
 // Is the key legal for the cipher of that number, and blank? A key of an illegal length, which may be any, isn't looked at.
