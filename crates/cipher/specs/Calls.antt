@@ -17,7 +17,7 @@ use Rattle.cipher.specs.declared.SetUp.{SetUp}
 unfoldable pub setUpRefusal : ℕ → List ℕ → ℕ
 setUpRefusal n key = setUpOrder (not (isCipher n)) (not (isLength n (length key))) (blank key)
 
--- a key that set-up takes
+-- a key that set-up takes: legal for the cipher of that number, and not blank
 pub record Usable (n : ℕ) (key : List ℕ) : Type 0 where
   pub legal : isLength n (length key) ≡ true
   pub not-blank : blank key ≡ false

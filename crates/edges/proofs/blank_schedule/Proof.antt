@@ -25,6 +25,9 @@ loop-less c = omega arith
 loop-again : tie.Need-loop-again Inv-loop μ-loop
 loop-again c = tt
 
+cast-t12 : tie.Need-cast-t12 Inv-loop μ-loop
+cast-t12 c = search needs
+
 slice-aggregate-block-under : tie.Need-slice-aggregate-block-under Inv-loop μ-loop
 slice-aggregate-block-under c = search needs
 
@@ -45,6 +48,7 @@ blank-schedule-spec =
     add-i
     loop-less
     loop-again
+    cast-t12
     slice-aggregate-block-under
     block-under-requires
     returns)
