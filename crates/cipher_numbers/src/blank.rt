@@ -6,7 +6,7 @@ ghost use lib.ListN.{length};
 ghost use Rattle.cipher_numbers.specs.Ciphers.{isLength};
 ghost use Rattle.cipher_numbers.specs.Blank.{blank};
 
-// Are the key's bytes all equal? The first is laid beside itself too, since 16 bytes are looked at at once, and 15 one by one.
+// Are the key's bytes all equal? The first is laid beside itself too: the compiler looks at 32 or at 4 bytes at once, and at those left over one by one.
 fn is_blank(key: &[u8]) -> bool
     ensures { λ r. ⌜ r ≡ blank (now (key .entry)) ⌝ }
 {
