@@ -90,7 +90,7 @@ pub fn put(card: &mut [u8], record: &[u8]) -> u8
     let bad_card = !good(card);
     let bad_record = !slot::good_record(record);
     let i = goes_to(card, record);
-    let no = refusals::put::first(bad_card, bad_record, i >= card.len() / 16);
+    let no = card_orders::put::first(bad_card, bad_record, i >= card.len() / 16);
     if no != refusals::DONE {
         return no;
     }

@@ -64,7 +64,7 @@ pub fn compare(first: &[u8], second: &[u8], out: &mut [u8]) -> Compared
     let one = card::judge(first, &mut a);
     let two = card::judge(second, &mut b);
     let n = changes(first, second, one, two, &a, &b, &mut list);
-    let no = refusals::compare::first(!one.good, !two.good, out.len() < n * 4);
+    let no = card_orders::compare::first(!one.good, !two.good, out.len() < n * 4);
     let w = to_write(no, n);
     list::write(&list[0..w], out);
     Compared {

@@ -67,7 +67,7 @@ fn set_up_refusal(cipher: u64, key: &[u8]) -> u8
     let unknown = !cipher_numbers::is_cipher(cipher);
     let length = !cipher_numbers::is_length(cipher, key.len());
     let blank = blank::is_legal_and_blank(cipher, key);
-    refusals::set_up::first(unknown, length, blank)
+    cipher_orders::set_up::first(unknown, length, blank)
 }
 
 // The schedule of a key, for the cipher of a number.
@@ -94,7 +94,7 @@ pub fn set_up(cipher: u64, key: &[u8]) -> SetUp
 fn block_refusal(s: Schedule, block: usize, room: usize) -> u8
     ensures { λ r. ⌜ r ≡ blockRefusal s block room ⌝ }
 {
-    refusals::block::first(bad_schedule(s), block != 16, room < 16)
+    cipher_orders::block::first(bad_schedule(s), block != 16, room < 16)
 }
 
 // One block in a direction to the front of the output.

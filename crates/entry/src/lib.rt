@@ -13,7 +13,7 @@ pub fn refusal(cipher: u64, direction: u64, key: &[u8], block: usize, room: usiz
     let length = !cipher_numbers::is_length(cipher, key.len());
     let blank = blank::is_legal_and_blank(cipher, key);
     let undirected = !cipher_numbers::is_direction(direction);
-    refusals::entry::first(unknown, length, blank, undirected, block != 16, room < 16)
+    cipher_orders::entry::first(unknown, length, blank, undirected, block != 16, room < 16)
 }
 
 // One block enciphered (direction 1) or deciphered (2) under a key, to the front of the output. 0 is done.

@@ -1,19 +1,4 @@
-// The refusals of 01's table, and of later requests, by name: the one place where a number stands in code. And for each call the first that applies.
-pub mod block;
-pub mod compare;
-pub mod entry;
-pub mod finish;
-pub mod lay_down;
-pub mod piece;
-pub mod put;
-pub mod seal_check;
-pub mod seal_piece;
-pub mod seal_start;
-pub mod seal_write;
-pub mod set_up;
-pub mod start;
-pub mod take_up;
-
+// The refusals of 01's table, and of later requests, by name: the one place where a number stands in code. The order of each call's is a definition in specs/, and the code that decides by it is in the crates `.._orders`.
 pub const DONE: u8 = 0;
 
 pub const UNKNOWN_CIPHER: u8 = 1;

@@ -32,7 +32,7 @@ pub fn bad_state(bad_schedule: bool, s: Seal) -> bool
 pub fn start_refusal(schedule: Schedule) -> u8
     ensures { λ r. ⌜ r ≡ startRefusal schedule ⌝ }
 {
-    refusals::seal_start::first(cipher::bad_schedule(schedule))
+    seal_orders::start::first(cipher::bad_schedule(schedule))
 }
 
 // The refusal of a piece of n bytes, or 0.
@@ -41,7 +41,7 @@ pub fn piece_refusal(bad_schedule: bool, s: Seal, n: usize) -> u8
     ensures { λ r. ⌜ r ≡ pieceRefusal s n ⌝ }
 {
     let over = pieces::over_limit(s.count, n);
-    refusals::seal_piece::first(bad_state(bad_schedule, s), s.closed, over)
+    seal_orders::piece::first(bad_state(bad_schedule, s), s.closed, over)
 }
 
 // The refusal of writing the seal, with that room, or 0.
@@ -49,7 +49,7 @@ pub fn write_refusal(bad_schedule: bool, s: Seal, room: usize) -> u8
     requires { ⌜ «bad_schedule» ≡ bad (s .schedule) ⌝ }
     ensures { λ r. ⌜ r ≡ writeRefusal s room ⌝ }
 {
-    refusals::seal_write::first(bad_state(bad_schedule, s), s.closed, room < 16)
+    seal_orders::write::first(bad_state(bad_schedule, s), s.closed, room < 16)
 }
 
 // The refusal of a check, or 0.
@@ -57,5 +57,5 @@ pub fn check_refusal(bad_schedule: bool, s: Seal) -> u8
     requires { ⌜ «bad_schedule» ≡ bad (s .schedule) ⌝ }
     ensures { λ r. ⌜ r ≡ checkRefusal s ⌝ }
 {
-    refusals::seal_check::first(bad_state(bad_schedule, s), s.closed)
+    seal_orders::check::first(bad_state(bad_schedule, s), s.closed)
 }

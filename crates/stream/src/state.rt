@@ -33,7 +33,7 @@ pub fn start_refusal(schedule: Schedule, direction: u64, n: usize) -> u8
     ensures { λ r. ⌜ r ≡ startRefusal schedule direction n ⌝ }
 {
     let undirected = !cipher_numbers::is_direction(direction);
-    refusals::start::first(cipher::bad_schedule(schedule), undirected, n != 16)
+    stream_orders::start::first(cipher::bad_schedule(schedule), undirected, n != 16)
 }
 
 // The refusal of a piece of n bytes with that room, or 0.
@@ -43,7 +43,7 @@ pub fn piece_refusal(bad_schedule: bool, s: Stream, n: usize, room: usize) -> u8
 {
     let over = pieces::over_limit(s.count, n);
     let short = pieces::short_of_room(s.count, n, room);
-    refusals::piece::first(bad_state(bad_schedule, s), s.closed, over, short)
+    stream_orders::piece::first(bad_state(bad_schedule, s), s.closed, over, short)
 }
 
 // The refusal of finish, or 0.
@@ -51,5 +51,5 @@ pub fn finish_refusal(bad_schedule: bool, s: Stream) -> u8
     requires { ⌜ «bad_schedule» ≡ bad (s .schedule) ⌝ }
     ensures { λ r. ⌜ r ≡ finishRefusal s ⌝ }
 {
-    refusals::finish::first(bad_state(bad_schedule, s), s.closed, s.count % 16 != 0)
+    stream_orders::finish::first(bad_state(bad_schedule, s), s.closed, s.count % 16 != 0)
 }

@@ -80,7 +80,7 @@ fn lay_down_refusal(s: Stream, room: usize) -> u8
 {
     let schedule = s.schedule;
     let bad = cipher::bad_schedule(schedule);
-    refusals::lay_down::first(
+    stream_orders::lay_down::first(
         stream::state::bad_state(bad, s),
         room < stream_layout::LENGTH,
     )
@@ -92,10 +92,10 @@ fn take_up_refusal(schedule: Schedule, record: &[u8]) -> u8
 {
     let bad = cipher::bad_schedule(schedule);
     if record.len() != stream_layout::LENGTH {
-        return refusals::take_up::first(bad, true, false);
+        return stream_orders::take_up::first(bad, true, false);
     }
     let f = stream_layout::read(record);
-    refusals::take_up::first(bad, bad_fields(f), differs(schedule, f))
+    stream_orders::take_up::first(bad, bad_fields(f), differs(schedule, f))
 }
 
 // The stream's record to the front of the output.
