@@ -11,14 +11,15 @@ use borrow.Author.Tests.{eq-eqb, ne-eqb, le-leb, lt-leb, lt-ltb, le-ltb, ltb-tru
 use Rattle.laws.specs.Choice.{choose}
 use Rattle.refusals.specs.Refusals as refusal
 use Rattle.refusals.proofs.Clear.{Clear, put-clear}
-use Rattle.card.specs.Slot.{empty, recipe, segment, legal, illegal, goodRecord}
-use Rattle.card.specs.Card.{slot, slots, every, some, pairs, noneTwice, good}
-use Rattle.card.specs.Find.{place, named, found, findPart, findAt}
+use Rattle.card_slots.specs.Slot.{empty, recipe, segment, legal, illegal, goodRecord}
+use Rattle.card_slots.specs.Card.{slot, slots, every, some, pairs, noneTwice, good}
+use Rattle.card_slots.specs.Find.{place, named, found, findPart, findAt}
 use Rattle.card.specs.Put.{namesake, goesTo, nowhere, putAnswer, written, putCard}
-use Rattle.card.specs.code.Order.{InOrder, Apart, JudgesInOrder}
-use Rattle.card.proofs.Rules.{record-16}
-use Rattle.card.proofs.Slots.{slots-length, slots-at}
-use Rattle.card.proofs.Twice.{every-some, some-place}
+use Rattle.card_keys.specs.code.Keys.{InOrder, Apart}
+use Rattle.card.specs.code.Order.{JudgesInOrder}
+use Rattle.card_slots.proofs.Rules.{record-16}
+use Rattle.card_slots.proofs.Slots.{slots-length, slots-at}
+use Rattle.card_slots.proofs.Twice.{every-some, some-place}
 use Rattle.card.proofs.Arranged.{apart-none, apart-ordered}
 
 -- the first slot of which a test holds is one of the card's, or the test holds of none

@@ -14,14 +14,15 @@ use Rattle.laws.proofs.Test.{and-left, and-right, fails}
 use Rattle.runs.specs.Zeros.{zeros}
 use Rattle.sorting.specs.Sorted.{Sorted, times}
 use Rattle.sorting.proofs.Times.{stands-times, times-stands, twice-times}
-use Rattle.card.specs.Slot.{recipe, segment, pairOf, within, empty, keepsRules, legal}
-use Rattle.card.specs.Card.{slot, slots, every, some, pairs, noneTwice}
-use Rattle.card.specs.Find.{named}
-use Rattle.card.specs.code.Order.{keyOf, keysFrom, Neighbours, Apart, Ordered}
-use Rattle.card.proofs.Slots.{slots-length, slots-at}
-use Rattle.card.proofs.Named.{named-pair, named-not-empty, named-self}
-use Rattle.card.proofs.Keys.{key-times, times-key, key-slot, key-once}
-use Rattle.card.proofs.Twice.{some-at, at-some, every-at, again, twice-cons}
+use Rattle.card_slots.specs.Slot.{recipe, segment, pairOf, within, empty, keepsRules, legal}
+use Rattle.card_slots.specs.Card.{slot, slots, every, some, pairs, noneTwice}
+use Rattle.card_slots.specs.Find.{named}
+use Rattle.card_keys.specs.code.Keys.{keyOf, keysFrom, Neighbours, Apart}
+use Rattle.card.specs.code.Order.{Ordered}
+use Rattle.card_slots.proofs.Slots.{slots-length, slots-at}
+use Rattle.card_slots.proofs.Named.{named-pair, named-not-empty, named-self}
+use Rattle.card_keys.proofs.Keys.{key-times, times-key, key-slot, key-once}
+use Rattle.card_slots.proofs.Twice.{some-at, at-some, every-at, again, twice-cons}
 
 -- ---- two slots with one pair
 abbrev Two : List (List ℕ) → ℕ → ℕ → Type 0

@@ -4,8 +4,8 @@ use mathlib.Core.Bool.{Bool}
 use mathlib.Core.List.{List}
 use Prim.Native.Nat.{ℕ}
 use denote.Ref.{RefT, now}
-use Rattle.card.specs.Card.{good}
-use Rattle.card.specs.Find.{findPart, findAt, Part}
+use Rattle.card_slots.specs.Card.{good}
+use Rattle.card_slots.specs.Find.{findPart, findAt, Part}
 use Rattle.card.specs.Put.{putAnswer, putCard}
 
 -- whether the card is good is r

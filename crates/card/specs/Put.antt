@@ -6,9 +6,9 @@ use lib.Dec.{eqb}
 use lib.ListN.{take, drop}
 use Rattle.laws.specs.Choice.{choose}
 use Rattle.refusals.specs.Refusals.{done, putOrder}
-use Rattle.card.specs.Slot.{empty, goodRecord, pairOf}
-use Rattle.card.specs.Card.{slots, some, good}
-use Rattle.card.specs.Find.{place, named}
+use Rattle.card_slots.specs.Slot.{empty, goodRecord, pairOf}
+use Rattle.card_slots.specs.Card.{slots, some, good}
+use Rattle.card_slots.specs.Find.{place, named}
 
 -- a slot is the record's namesake
 abbrev pub namesake : List ℕ → List ℕ → Bool

@@ -1,12 +1,10 @@
 // Recipe cards: whether a card is good, finding a recipe's segment, putting a record (02, request 1). No cipher is known here.
-mod order;
-mod pairs;
-mod search;
-mod slot;
-
+use card_slots::pairs;
+use card_slots::search;
+use card_slots::slot;
 ghost use mathlib.Core.Path.{_≡_};
 ghost use lib.ListN.{length};
-ghost use Rattle.card.specs.Card.{slots};
+ghost use Rattle.card_slots.specs.Card.{slots};
 ghost use Rattle.card.specs.Put.{goesTo};
 ghost use Rattle.card.specs.code.Order.{JudgesInOrder};
 ghost use Rattle.card.specs.Promises.{Judges, Finds, Puts};
@@ -36,8 +34,8 @@ pub fn judge(card: &[u8], keys: &mut [u32]) -> Judged
     if search::of_illegal(card) < card.len() / 16 {
         return BAD;
     }
-    let filled = order::by_pair(card, keys);
-    let good = order::apart(&keys[0..filled]);
+    let filled = card_keys::by_pair(card, keys);
+    let good = card_keys::apart(&keys[0..filled]);
     Judged { good, filled }
 }
 

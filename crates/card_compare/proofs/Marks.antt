@@ -6,8 +6,8 @@ use Prim.Native.Nat.{ℕ}
 use Rattle.laws.proofs.Test.{fails}
 use Rattle.runs.specs.Same.{same}
 use Rattle.runs.proofs.Same.{same-self, same-is}
-use Rattle.card.specs.Slot.{empty}
-use Rattle.card.specs.Find.{found, findPart}
+use Rattle.card_slots.specs.Slot.{empty}
+use Rattle.card_slots.specs.Find.{found, findPart}
 use Rattle.card.proofs.Answers.{none-part}
 use Rattle.card_laws.proofs.Find.{found-filled}
 use Rattle.card_compare.specs.Compare.{alike, mark, changeAt, onlyFirst, onlySecond, otherContents}

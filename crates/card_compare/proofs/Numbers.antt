@@ -5,7 +5,7 @@ use mathlib.Core.List.{List, [], _++_}
 use Prim.Native.Nat.{ℕ, suc, _+_, _-_, _*_, _/_, _%_, _≤_, _<_}
 use native.Mathlib.Omega.{arith}
 use Rattle.laws.proofs.Test.{fails}
-use Rattle.card.specs.Find.{found}
+use Rattle.card_slots.specs.Find.{found}
 use Rattle.card_laws.proofs.Find.{found-recipe, found-segment}
 use Rattle.card_compare.specs.Compare.{changeAt, each, lastRecipe, lastSegment, changes}
 use Rattle.card_compare.proofs.Each.{each-next, each-inside, each-nothing, each-rows}

@@ -13,7 +13,7 @@ use Rattle.laws.specs.Bytes.{bytesOf}
 use Rattle.laws.proofs.BigEndian.{length-bytesOf}
 use Rattle.refusals.specs.Refusals as refusal
 use Rattle.refusals.proofs.Clear.{Clear, compare-clear}
-use Rattle.card.specs.Card.{good}
+use Rattle.card_slots.specs.Card.{good}
 use Rattle.card_compare.specs.Compare.{differences}
 use Rattle.card_compare.specs.Promises.{compareAnswer, compareWritten, compareOut, Compares}
 

@@ -10,13 +10,13 @@ use lib.ListN.{length, getD}
 use borrow.Author.Tests.{eqb-true, eqb-false, ltb-true, ltb-false, lt-ltb, le-ltb}
 use Rattle.laws.specs.Choice.{choose}
 use Rattle.laws.proofs.Test.{fails}
-use Rattle.card.specs.Slot.{recipe, segment, pairOf, legal}
-use Rattle.card.specs.Card.{slot, slots, good}
-use Rattle.card.specs.Find.{place, named, found, findPart}
+use Rattle.card_slots.specs.Slot.{recipe, segment, pairOf, legal}
+use Rattle.card_slots.specs.Card.{slot, slots, good}
+use Rattle.card_slots.specs.Find.{place, named, found, findPart}
 use Rattle.card.specs.code.Order.{Key, Ordered}
-use Rattle.card.proofs.Slots.{slots-length, slots-at}
-use Rattle.card.proofs.Named.{named-pair, named-self}
-use Rattle.card.proofs.Twice.{every-at}
+use Rattle.card_slots.proofs.Slots.{slots-length, slots-at}
+use Rattle.card_slots.proofs.Named.{named-pair, named-self}
+use Rattle.card_slots.proofs.Twice.{every-at}
 use Rattle.card.proofs.Arranged.{rise-far, slot-range, key-filled, key-number}
 use Rattle.card_laws.proofs.Search.{place-true}
 use Rattle.card_laws.proofs.Find.{few-slots, every-legal, found-inside, found-recipe, only-found, only-one}

@@ -13,8 +13,8 @@ use Rattle.laws.specs.Bytes as words
 use Rattle.laws.proofs.BigEndian.{bytesOf-append}
 use Rattle.runs.specs.Same.{same}
 use Rattle.runs.proofs.Same.{same-self, same-is}
-use Rattle.card.specs.Card.{good}
-use Rattle.card.specs.Find.{found}
+use Rattle.card_slots.specs.Card.{good}
+use Rattle.card_slots.specs.Find.{found}
 use Rattle.card.specs.code.Order.{Ordered}
 use Rattle.card_compare.specs.Compare.{changeAt, bytesOf, listed, differences}
 use Rattle.card_compare.specs.code.Merge.{numberAt, slotAt, markAt}

@@ -4,7 +4,7 @@ use mathlib.Core.List.{List, [], _∷_, _++_}
 use Prim.Native.Nat.{ℕ, zero, suc, _/_, _%_}
 use Rattle.laws.specs.Choice.{choose}
 use Rattle.runs.specs.Same.{same}
-use Rattle.card.specs.Find.{found, findPart}
+use Rattle.card_slots.specs.Find.{found, findPart}
 
 -- ---- one recipe's segment
 -- what both cards have there is the same: the very same record, or nothing

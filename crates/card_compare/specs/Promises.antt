@@ -7,7 +7,7 @@ use lib.Dec.{eqb, ltb}
 use lib.ListN.{length, drop}
 use Rattle.laws.specs.Choice.{choose}
 use Rattle.refusals.specs.Refusals.{done, compareOrder}
-use Rattle.card.specs.Card.{good}
+use Rattle.card_slots.specs.Card.{good}
 use Rattle.card_compare.specs.Compare.{differences}
 
 unfoldable pub compareAnswer : List ℕ → List ℕ → List ℕ → ℕ

@@ -6,7 +6,7 @@ ghost use lib.ListN.{length, take};
 ghost use Rattle.laws.specs.Choice.{choose};
 ghost use Rattle.laws.specs.Bytes.{bytesOf};
 ghost use Rattle.runs.specs.Same.{same};
-ghost use Rattle.card.specs.Card.{good, slot};
+ghost use Rattle.card_slots.specs.Card.{good, slot};
 ghost use Rattle.card.specs.code.Order.{Ordered};
 ghost use Rattle.card_compare.specs.Compare.{differences};
 ghost use Rattle.card_compare.specs.code.Merge as spec;

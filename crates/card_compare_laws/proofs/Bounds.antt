@@ -9,10 +9,10 @@ use lib.ListN.{length, length-append, length-map}
 use borrow.Author.Tests.{leb-true, ltb-false, not-true}
 use Rattle.laws.specs.Choice.{choose}
 use Rattle.laws.proofs.Test.{and-left, and-right}
-use Rattle.card.specs.Card.{slots, every, some, samePair, noneTwice, good}
-use Rattle.card.specs.Find.{named, found}
-use Rattle.card.proofs.Slots.{slots-length}
-use Rattle.card.proofs.Named.{same-pair, pair-same, named-pair, named-other}
+use Rattle.card_slots.specs.Card.{slots, every, some, samePair, noneTwice, good}
+use Rattle.card_slots.specs.Find.{named, found}
+use Rattle.card_slots.proofs.Slots.{slots-length}
+use Rattle.card_slots.proofs.Named.{same-pair, pair-same, named-pair, named-other}
 use Rattle.card_compare.specs.Compare.{changes, bytesOf, listed, differences}
 use Rattle.card_compare_laws.specs.Changes.{Among, Changed, only-first, only-second, other-contents, pairsOf}
 use Rattle.card_compare_laws.specs.Records.{howMany}

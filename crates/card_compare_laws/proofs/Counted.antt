@@ -9,7 +9,7 @@ use lib.ListN.{length}
 use borrow.Author.Tests.{lt-ltb}
 use Rattle.laws.specs.Choice.{choose}
 use Rattle.laws.proofs.Test.{and-left, and-right}
-use Rattle.card.specs.Card.{every, some}
+use Rattle.card_slots.specs.Card.{every, some}
 use Rattle.card_compare_laws.specs.Records.{howMany}
 
 module _ {A : Type 0} where

@@ -4,7 +4,7 @@ use mathlib.Core.Bool.{Bool, true, false, true≢false}
 use mathlib.Core.Logic.{_↔_, _⊎_, inl, inr}
 use mathlib.Core.List.{List, [], _∷_, cons≢nil, List·Memᴰ·head, List·Memᴰ·not-nil, List·Memᴰ·eq-of-singleton}
 use Prim.Native.Nat.{ℕ}
-use Rattle.card.specs.Find.{found, findPart}
+use Rattle.card_slots.specs.Find.{found, findPart}
 use Rattle.card.proofs.Answers.{none-part}
 use Rattle.card_laws.proofs.Find.{found-recipe, found-segment}
 use Rattle.card_compare.specs.Compare.{alike, changeAt, changes}

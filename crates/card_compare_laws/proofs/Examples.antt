@@ -8,11 +8,11 @@ use native.Mathlib.Nat.{div-add-mod'}
 use lib.Dec.{leb, ltb}
 use lib.ListN.{replicate}
 use borrow.Author.Tests.{le-ltb, lt-leb}
-use Rattle.card.specs.Slot.{empty, keepsRules, pairOf}
-use Rattle.card.specs.Card.{slots, every, good}
-use Rattle.card.specs.Find.{place, named, found, findPart}
+use Rattle.card_slots.specs.Slot.{empty, keepsRules, pairOf}
+use Rattle.card_slots.specs.Card.{slots, every, good}
+use Rattle.card_slots.specs.Find.{place, named, found, findPart}
 use Rattle.laws.proofs.Test.{fails}
-use Rattle.card.proofs.Twice.{every-at}
+use Rattle.card_slots.proofs.Twice.{every-at}
 use Rattle.card_laws.proofs.Find.{found-inside, part-is, found-pair, found-filled}
 use Rattle.card_compare.specs.Compare.{alike, mark, changeAt, listed, differences}
 use Rattle.card_compare.proofs.Numbers.{pairAt, numberOf, left, left-all, left-end, left-next}

@@ -8,7 +8,7 @@ use lib.Dec.{eqb, ltb}
 use borrow.Author.Tests.{eq-eqb, ne-eqb, lt-ltb, ltb-true, ltb-false}
 use Rattle.laws.specs.Choice.{choose}
 use Rattle.laws.proofs.Test.{and-left, and-right}
-use Rattle.card.specs.Card.{every, some, samePair, noneTwice}
+use Rattle.card_slots.specs.Card.{every, some, samePair, noneTwice}
 use Rattle.card_compare.specs.Compare.{alike, mark, changeAt, each, changes}
 use Rattle.card_compare.proofs.Numbers.{pairAt, allPairs, left, left-all}
 use Rattle.card_compare_laws.specs.Changes.{before, sorted, pairsOf}

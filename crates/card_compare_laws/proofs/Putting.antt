@@ -5,8 +5,8 @@ use mathlib.Core.List.{List, [], _∷_}
 use Prim.Native.Nat.{ℕ}
 use Rattle.laws.specs.Choice.{choose}
 use Rattle.refusals.specs.Refusals.{done}
-use Rattle.card.specs.Slot.{pairOf}
-use Rattle.card.specs.Find.{found, findPart}
+use Rattle.card_slots.specs.Slot.{pairOf}
+use Rattle.card_slots.specs.Find.{found, findPart}
 use Rattle.card.specs.Put.{putAnswer, putCard}
 use Rattle.card_laws.proofs.Find.{found-recipe, found-segment}
 use Rattle.card_laws.proofs.Put.{put-others, put-found, refused-kept}

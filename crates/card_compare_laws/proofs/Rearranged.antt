@@ -3,8 +3,8 @@ use mathlib.Core.Path.{_≡_, sym, ap, _∙_}
 use mathlib.Core.List.{List, map}
 use Prim.Native.Nat.{ℕ}
 use lib.Dec.{ltb}
-use Rattle.card.specs.Card.{slots}
-use Rattle.card.specs.Find.{findPart}
+use Rattle.card_slots.specs.Card.{slots}
+use Rattle.card_slots.specs.Find.{findPart}
 use Rattle.card_compare.specs.Compare.{alike, mark, changeAt, changes}
 use Rattle.card_compare_laws.specs.Changes.{exchanged}
 use Rattle.card_compare_laws.specs.Records.{has, holds, SameRecords, Rearranged}

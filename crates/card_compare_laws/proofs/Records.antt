@@ -9,13 +9,13 @@ use borrow.Author.Tests.{ltb-true, lt-ltb, not-true}
 use Rattle.laws.proofs.Test.{and-left, and-right}
 use Rattle.runs.specs.Same.{same}
 use Rattle.runs.proofs.Same.{same-self, same-is}
-use Rattle.card.specs.Slot.{pairOf}
-use Rattle.card.specs.Card.{slots, some, good}
-use Rattle.card.specs.Find.{place, named, found, findPart}
+use Rattle.card_slots.specs.Slot.{pairOf}
+use Rattle.card_slots.specs.Card.{slots, some, good}
+use Rattle.card_slots.specs.Find.{place, named, found, findPart}
 use Rattle.card.proofs.Answers.{none-part}
-use Rattle.card.proofs.Twice.{some-place}
+use Rattle.card_slots.proofs.Twice.{some-place}
 use Rattle.card_laws.proofs.Search.{place-true, place-least}
-use Rattle.card.proofs.Named.{named-self}
+use Rattle.card_slots.proofs.Named.{named-self}
 use Rattle.card_laws.proofs.Find.{found-inside, part-is, found-pair, found-filled, only-found, only-one}
 use Rattle.card_compare_laws.specs.Changes.{only-first, only-second}
 use Rattle.card_compare_laws.specs.Records.{has, holds, SameRecords}

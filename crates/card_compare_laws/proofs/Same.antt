@@ -4,8 +4,8 @@ use mathlib.Core.Bool.{true}
 use mathlib.Core.Logic.{_↔_, inl, inr}
 use mathlib.Core.List.{List, [], List·Memᴰ·not-nil}
 use Prim.Native.Nat.{ℕ}
-use Rattle.card.specs.Card.{good}
-use Rattle.card.specs.Find.{findPart}
+use Rattle.card_slots.specs.Card.{good}
+use Rattle.card_slots.specs.Find.{findPart}
 use Rattle.card_compare.specs.Compare.{changeAt, changes}
 use Rattle.card_compare.proofs.Marks.{change-same}
 use Rattle.card_compare_laws.specs.Changes.{Among}

@@ -5,8 +5,8 @@ use mathlib.Core.List.{List, [], _∷_, map, List·Memᴰ}
 use Prim.Native.Nat.{ℕ}
 use lib.Dec.{eqb, ltb}
 use Rattle.laws.specs.Choice.{choose}
-use Rattle.card.specs.Card.{every}
-use Rattle.card.specs.Find.{found, findPart}
+use Rattle.card_slots.specs.Card.{every}
+use Rattle.card_slots.specs.Find.{found, findPart}
 use Rattle.card_compare.specs.Compare.{onlyFirst, onlySecond, otherContents}
 
 -- ---- what it says

@@ -5,8 +5,8 @@ use mathlib.Core.List.{List, [], _∷_}
 use Prim.Native.Nat.{ℕ, suc}
 use Rattle.laws.specs.Choice.{choose}
 use Rattle.runs.specs.Same.{same}
-use Rattle.card.specs.Slot.{empty}
-use Rattle.card.specs.Card.{slots, some, good}
+use Rattle.card_slots.specs.Slot.{empty}
+use Rattle.card_slots.specs.Card.{slots, some, good}
 
 -- a slot has the very record s: an empty one has none
 abbrev pub has : List ℕ → List ℕ → Bool

@@ -4,9 +4,9 @@ use mathlib.Core.Bool.{true, false}
 use mathlib.Core.List.{List, [], _∷_, _++_}
 use Prim.Native.Nat.{ℕ}
 use lib.ListN.{replicate}
-use Rattle.card.specs.Slot.{empty, keepsRules, goodRecord}
-use Rattle.card.specs.Card.{slots, good}
-use Rattle.card.specs.Find.{named, found, findPart, findAt}
+use Rattle.card_slots.specs.Slot.{empty, keepsRules, goodRecord}
+use Rattle.card_slots.specs.Card.{slots, good}
+use Rattle.card_slots.specs.Find.{named, found, findPart, findAt}
 use Rattle.card.specs.Put.{goesTo, nowhere, putAnswer, putCard}
 
 -- ---- slots

@@ -6,9 +6,9 @@ use Prim.Native.Nat.{ℕ, suc, _<_}
 use lib.ListN.{length, getD, take, drop, set}
 use lib.Seq.{split-at, set-split}
 use Rattle.laws.specs.Choice.{choose}
-use Rattle.card.specs.Slot.{empty, pairOf}
-use Rattle.card.specs.Card.{some, samePair, filled, pairs, noneTwice}
-use Rattle.card.proofs.Named.{pair-sym}
+use Rattle.card_slots.specs.Slot.{empty, pairOf}
+use Rattle.card_slots.specs.Card.{some, samePair, filled, pairs, noneTwice}
+use Rattle.card_slots.proofs.Named.{pair-sym}
 
 -- ---- the pairs of slots in a row
 pairs-append : (a b : List (List ℕ)) → pairs (a ++ b) ≡ pairs a ++ pairs b

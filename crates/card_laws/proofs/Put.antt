@@ -12,14 +12,14 @@ use Rattle.laws.specs.Choice.{choose}
 use Rattle.laws.proofs.Test.{and-left, and-right}
 use Rattle.refusals.specs.Refusals as refusal
 use Rattle.refusals.proofs.Clear.{Clear, put-clear}
-use Rattle.card.specs.Slot.{pairOf, empty, legal, goodRecord}
-use Rattle.card.specs.Card.{slots, every, some, pairs, noneTwice, good}
-use Rattle.card.specs.Find.{place, named, found, findPart, findAt}
+use Rattle.card_slots.specs.Slot.{pairOf, empty, legal, goodRecord}
+use Rattle.card_slots.specs.Card.{slots, every, some, pairs, noneTwice, good}
+use Rattle.card_slots.specs.Find.{place, named, found, findPart, findAt}
 use Rattle.card.specs.Put.{namesake, goesTo, nowhere, putAnswer, written, putCard}
-use Rattle.card.proofs.Rules.{record-16}
-use Rattle.card.proofs.Slots.{slots-length}
-use Rattle.card.proofs.Twice.{some-place, some-named}
-use Rattle.card.proofs.Named.{named-pair, named-not-empty, named-other, named-empty, named-self}
+use Rattle.card_slots.proofs.Rules.{record-16}
+use Rattle.card_slots.proofs.Slots.{slots-length}
+use Rattle.card_slots.proofs.Twice.{some-place, some-named}
+use Rattle.card_slots.proofs.Named.{named-pair, named-not-empty, named-other, named-empty, named-self}
 use Rattle.card.proofs.Answers.{nowhere-at}
 use Rattle.card_laws.proofs.Search.{every-set, place-true, place-set, place-other}
 use Rattle.card_laws.proofs.Pairs.{twice-namesake, twice-empty}

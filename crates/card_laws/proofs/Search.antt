@@ -8,8 +8,8 @@ use native.Mathlib.Nat.{le-of-suc-le-suc, not-suc-le-zero}
 use lib.ListN.{length, getD, set}
 use Rattle.laws.specs.Choice.{choose}
 use Rattle.laws.proofs.Test.{and-left, and-right}
-use Rattle.card.specs.Card.{every}
-use Rattle.card.specs.Find.{place}
+use Rattle.card_slots.specs.Card.{every}
+use Rattle.card_slots.specs.Find.{place}
 
 module _ (t : List ℕ → Bool) where
   -- ---- of every slot

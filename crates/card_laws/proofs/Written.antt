@@ -9,9 +9,9 @@ use lib.Dec.{ltb}
 use lib.ListN.{length, getD, take, drop, set, length-append, length-drop, length-set, List·getD-append}
 use lib.Seq.{length-take-le, take-at, drop-at, getD-take, getD-drop, getD-append-add, ext-getD, getD-set-same, getD-set-other}
 use borrow.Author.Tests.{ltb-true, ltb-false}
-use Rattle.card.specs.Card.{slot, slots}
+use Rattle.card_slots.specs.Card.{slot, slots}
 use Rattle.card.specs.Put.{written}
-use Rattle.card.proofs.Slots.{slots-length, slots-at, slot-length}
+use Rattle.card_slots.proofs.Slots.{slots-length, slots-at, slot-length}
 
 slot-byte : (c : List ℕ) (j q : ℕ) → q < 16 → getD (slot c j) q 0 ≡ getD c (j * 16 + q) 0
 slot-byte c j q l = getD-take 16 (drop (j * 16) c) q 0 l ∙ getD-drop (j * 16) c q 0

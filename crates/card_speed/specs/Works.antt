@@ -4,8 +4,8 @@ use mathlib.Core.List.{List}
 use Prim.Native.Nat.{ℕ}
 use lib.ListN.{length}
 use Rattle.laws.specs.Choice.{choose}
-use Rattle.card.specs.Card.{good}
-use Rattle.card.specs.Find.{findPart}
+use Rattle.card_slots.specs.Card.{good}
+use Rattle.card_slots.specs.Find.{findPart}
 use Rattle.card_compare.specs.Promises.{compareWritten, compareOut}
 
 pub record MeasuresGood (card : List ℕ) (r : ℕ) : Type 0 where

@@ -4,7 +4,7 @@ use Prim.Native.Nat.{ℕ}
 use native.Mathlib.Omega.{arith}
 use borrow.Author.Needs.{needs}
 use borrow.Author.Tests.{not-true, not-false}
-use Rattle.card.specs.Card.{good}
+use Rattle.card_slots.specs.Card.{good}
 use Rattle.card.proofs.Answers.{found-bad, found-none, one-part, one-at, none-part, none-at}
 use Rattle.card.proofs.find.Statement.{statement}
 use Rattle.card.proofs.find.Tie as tie

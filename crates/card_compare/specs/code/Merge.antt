@@ -5,7 +5,7 @@ use lib.Dec.{ltb}
 use lib.ListN.{length, getD}
 use Rattle.laws.specs.Choice.{choose}
 use Rattle.runs.specs.Same.{same}
-use Rattle.card.specs.Card.{slot}
+use Rattle.card_slots.specs.Card.{slot}
 use Rattle.card_compare.specs.Compare.{onlyFirst, onlySecond, otherContents}
 
 -- the pair of key i as a number, and behind the last key one that no pair has

@@ -4,8 +4,8 @@ use Prim.Native.Nat.{ℕ, _%_}
 use Rattle.laws.specs.Bytes.{xorL}
 use Rattle.runs.specs.Zeros.{zeros}
 use Rattle.runs.proofs.Same.{same-by-xor}
-use Rattle.card.specs.Card.{slot}
-use Rattle.card.proofs.Slots.{slot-length}
+use Rattle.card_slots.specs.Card.{slot}
+use Rattle.card_slots.proofs.Slots.{slot-length}
 use borrow.Author.Needs.{needs}
 use Rattle.card_compare.proofs.merge.same_slot.Statement.{statement}
 use Rattle.card_compare.proofs.merge.same_slot.Tie as tie

@@ -1,0 +1,4 @@
+pub mod Rules
+pub mod Named
+pub mod Slots
+pub mod Twice
