@@ -21,6 +21,19 @@ pub struct Record {
 }
 
 impl Record {
+    /// The numbers of a slot of 16 bytes, whatever stands behind them.
+    pub fn of(slot: &[u8]) -> Record {
+        let slot = number(slot);
+        Record {
+            recipe: field(slot, 0, 2) as u16,
+            segment: field(slot, 2, 1) as u8,
+            kind: field(slot, 3, 1) as u8,
+            target: field(slot, 4, 2) as u16,
+            rate: field(slot, 6, 2) as u16,
+            hold: field(slot, 8, 2) as u16,
+        }
+    }
+
     pub fn bytes(self) -> Block {
         let mut bytes = EMPTY;
         bytes[0..2].copy_from_slice(&self.recipe.to_be_bytes());

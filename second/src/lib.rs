@@ -1,7 +1,8 @@
 //! The second program: document 01 and requests 1 to 3 and 5 to 7 of document 02 once
 //! more, by another road than a fast program would take, so that its answers can be held
-//! against those of the product. Request 4 moves no answer.
+//! against those of the product. Request 4 moves no answer. The bench's commands stand on it.
 
+pub mod bench;
 pub mod bytes;
 pub mod card;
 pub mod cbc;

@@ -1,7 +1,8 @@
 //! The command: writes the replay files, interprets a script, checks the files, prints
-//! edge cases, or cuts the power of a program that interprets scripts.
-//! Follows the page on replay.
+//! edge cases, cuts the power of a program that interprets scripts, or does the bench's work.
+//! Follows the page on replay, and that on the bench.
 
+use second::bench::{self, Outcome};
 use second::cuts::cuts;
 use second::edges;
 use second::replay::{run, script, Extent};
@@ -21,7 +22,10 @@ const USAGE: &str = "usage: second replay DIR [blocks]
        second cuts PROGRAM [WORD..]";
 
 fn main() -> ExitCode {
-    let arguments: Vec<String> = std::env::args().skip(1).collect();
+    let arguments = std::env::args_os().skip(1);
+    let arguments: Vec<_> = arguments
+        .map(|word| word.to_string_lossy().into_owned())
+        .collect();
     let arguments: Vec<&str> = arguments.iter().map(String::as_str).collect();
     let outcome = match arguments[..] {
         ["replay", directory] => write_files(directory, Extent::Whole),
@@ -36,8 +40,9 @@ fn main() -> ExitCode {
         ["edges", "cuts"] => write_out(edges::cuts().as_bytes()),
         ["edges", "compare"] => write_out(edges::compare().as_bytes()),
         ["cuts", program, ref words @ ..] => cut(program, words),
+        ["bench", ref words @ ..] => return bench(words),
         _ => {
-            eprintln!("{USAGE}");
+            eprintln!("{USAGE}\n       {}", bench::USAGE);
             return ExitCode::from(2);
         }
     };
@@ -114,6 +119,21 @@ fn answers_of(program: &str, words: &[&str], script: &[u8]) -> Result<Vec<u8>, S
     match output.status.success() {
         true => Ok(output.stdout),
         false => Err(format!("{program} ends with {}", output.status)),
+    }
+}
+
+fn bench(words: &[&str]) -> ExitCode {
+    let read = |path: &str| {
+        std::fs::read(path).map_err(|error| format!("failed: {path} cannot be read: {error}"))
+    };
+    let Outcome { out, said, status } = bench::bench(words, &read);
+    eprint!("{said}");
+    match write_out(&out) {
+        Ok(()) => ExitCode::from(status),
+        Err(sentence) => {
+            eprintln!("{sentence}");
+            ExitCode::from(2)
+        }
     }
 }
 

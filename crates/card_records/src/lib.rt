@@ -1,26 +1,17 @@
 // The records and cards of the edge cases.
+use card_fields::Fields;
 ghost use Prim.Native.Nat.{_≤_};
 
 // 02's bytes of a record.
 pub fn record(recipe: u16, segment: u8, kind: u8, target: u16, rate: u16, hold: u16) -> [u8; 16] {
-    [
-        (recipe / 256) as u8,
-        (recipe % 256) as u8,
+    card_fields::laid(Fields {
+        recipe,
         segment,
         kind,
-        (target / 256) as u8,
-        (target % 256) as u8,
-        (rate / 256) as u8,
-        (rate % 256) as u8,
-        (hold / 256) as u8,
-        (hold % 256) as u8,
-        0,
-        0,
-        0,
-        0,
-        0,
-        0,
-    ]
+        target,
+        rate,
+        hold,
+    })
 }
 
 pub fn empty() -> [u8; 16] {

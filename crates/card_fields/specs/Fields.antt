@@ -1,0 +1,24 @@
+-- The fields of a slot as one value.
+use mathlib.Core.Path.{_≡_}
+use mathlib.Core.Bool.{true}
+use mathlib.Core.List.{List}
+use Prim.Native.Nat.{ℕ}
+use lib.ListN.{length}
+use Rattle.runs.specs.Zeros.{zeros}
+use Rattle.card_slots.specs.Slot as slot
+use Rattle.card_fields.specs.declared.Fields.{Fields}
+
+-- what a slot has in its fields
+pub record Has (s : List ℕ) (f : Fields) : Type 0 where
+  pub recipe : slot.recipe s ≡ f .recipe
+  pub segment : slot.segment s ≡ f .segment
+  pub kind : slot.kind s ≡ f .kind
+  pub target : slot.target s ≡ f .target
+  pub rate : slot.rate s ≡ f .rate
+  pub hold : slot.holdMinutes s ≡ f .hold
+
+-- a slot that has these, and nothing behind them
+pub record Laid (f : Fields) (s : List ℕ) : Type 0 where
+  pub sixteen : length s ≡ 16
+  pub has : Has s f
+  pub nothing-behind : zeros (slot.rest s) ≡ true

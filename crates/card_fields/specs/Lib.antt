@@ -1,0 +1,2 @@
+-- The fields of a slot as one value.
+pub mod Fields

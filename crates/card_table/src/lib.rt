@@ -1,0 +1,3 @@
+// A card as a table (docs/BENCH.md, 'The table').
+pub mod reading;
+pub mod writing;

@@ -1,0 +1,3 @@
+// What a person typed: a word, or a number (docs/BENCH.md, 'Numbers').
+pub mod number;
+pub mod word;
