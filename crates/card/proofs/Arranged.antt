@@ -14,7 +14,8 @@ use Rattle.laws.proofs.Test.{and-left, and-right, fails}
 use Rattle.runs.specs.Zeros.{zeros}
 use Rattle.sorting.specs.Sorted.{Sorted, times}
 use Rattle.sorting.proofs.Times.{stands-times, times-stands, twice-times}
-use Rattle.card_slots.specs.Slot.{recipe, segment, pairOf, within, empty, keepsRules, legal}
+use Rattle.laws.specs.Range.{within}
+use Rattle.card_slots.specs.Slot.{recipe, segment, pairOf, empty, keepsRules, legal}
 use Rattle.card_slots.specs.Card.{slot, slots, every, some, pairs, noneTwice}
 use Rattle.card_slots.specs.Find.{named}
 use Rattle.card_keys.specs.code.Keys.{keyOf, keysFrom, Neighbours, Apart}

@@ -10,7 +10,8 @@ use lib.ListN.{length, getD}
 use borrow.Author.Tests.{ltb-true, leb-true, not-true, lt-ltb}
 use Rattle.laws.specs.Choice.{choose}
 use Rattle.laws.proofs.Test.{and-left, and-right, fails}
-use Rattle.card_slots.specs.Slot.{recipe, segment, pairOf, within, empty, keepsRules, legal}
+use Rattle.laws.specs.Range.{within}
+use Rattle.card_slots.specs.Slot.{recipe, segment, pairOf, empty, keepsRules, legal}
 use Rattle.card_slots.specs.Card.{slots, every, some, pairs, noneTwice, good}
 use Rattle.card_slots.specs.Find.{place, named, found, findPart, findAt}
 use Rattle.card_slots.proofs.Named.{named-pair, named-not-empty}

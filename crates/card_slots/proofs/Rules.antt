@@ -9,7 +9,8 @@ use borrow.Author.Tests.{eq-eqb, ne-eqb, eqb-true, le-leb, lt-leb}
 use Rattle.laws.specs.Choice.{choose}
 use Rattle.laws.proofs.Test.{and-left}
 use Rattle.runs.specs.Zeros.{zeros}
-use Rattle.card_slots.specs.Slot.{recipe, segment, kind, target, rest, within, empty, keepsRules, legal, illegal, goodRecord}
+use Rattle.laws.specs.Range.{within}
+use Rattle.card_slots.specs.Slot.{recipe, segment, kind, target, rest, empty, keepsRules, legal, illegal, goodRecord}
 use Rattle.card_slots.specs.Find.{named}
 
 -- ---- a slot that isn't empty

@@ -5,6 +5,7 @@ use Prim.Native.Nat.{ℕ, _+_, _*_}
 use lib.Dec.{eqb, leb}
 use lib.ListN.{length, getD, drop}
 use Rattle.laws.specs.Choice.{choose}
+use Rattle.laws.specs.Range.{within}
 use Rattle.runs.specs.Zeros.{zeros}
 
 -- ---- the fields
@@ -42,9 +43,6 @@ abbrev pub pairOf : List ℕ → ℕ × ℕ
 pairOf s = (recipe s, segment s)
 
 -- ---- the rules
-abbrev pub within : ℕ → ℕ → ℕ → Bool
-within low high x = leb low x && leb x high
-
 unfoldable pub empty : List ℕ → Bool
 empty s = zeros s
 

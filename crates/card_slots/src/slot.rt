@@ -2,6 +2,7 @@
 ghost use mathlib.Core.Path.{_≡_};
 ghost use Prim.Native.Nat.{_+_, _*_, _/_, _<_};
 ghost use lib.ListN.{length};
+ghost use Rattle.laws.specs.Range.{within as Range·within};
 ghost use Rattle.card_slots.specs.Slot as spec;
 ghost use Rattle.card_slots.specs.Card as cards;
 ghost use Rattle.card_slots.specs.Find as finds;
@@ -65,7 +66,7 @@ pub fn hold(slot: &[u8]) -> u16
 }
 
 fn within(low: u16, high: u16, x: u16) -> bool
-    ensures { λ r. ⌜ r ≡ spec.within low high x ⌝ }
+    ensures { λ r. ⌜ r ≡ Range·within low high x ⌝ }
 {
     if x < low {
         return false;

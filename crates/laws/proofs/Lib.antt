@@ -1,4 +1,5 @@
 pub mod Test
+pub mod Range
 pub mod Xor
 pub mod Places
 pub mod Parts

@@ -1,4 +1,5 @@
 pub mod Choice
+pub mod Range
 pub mod Places
 pub mod Bytes
 pub mod Turn

@@ -5,7 +5,8 @@ use mathlib.Core.Bool.{true}
 use mathlib.Core.List.{List}
 use Prim.Native.Nat.{ℕ}
 use borrow.Author.Tests.{not-true, not-false}
-use Rattle.card_slots.specs.Slot.{recipe, segment, kind, within}
+use Rattle.laws.specs.Range.{within}
+use Rattle.card_slots.specs.Slot.{recipe, segment, kind}
 use Rattle.card_slots.proofs.Rules.{rule, rules-recipe, rules-segment, rules-kind, rules-target, rules-rest}
 use Rattle.card_slots.proofs.slot.keeps_rules.Statement.{statement}
 use Rattle.card_slots.proofs.slot.keeps_rules.Tie as tie
