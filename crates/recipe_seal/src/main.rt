@@ -6,6 +6,8 @@
 //     mark IN OUT      the seal of IN, 16 bytes, to OUT, under the second of two keys
 //     receive IN       whether IN is a sent card, and if not, why
 // Standard output carries the outcome, and no more.
+mod received;
+
 use key_files::keys;
 use recipe_words::arguments;
 use recipe_words::outcome;
@@ -40,7 +42,7 @@ fn with_two_keys(marks: bool, receives: bool) {
         write::work(pair.second, false);
     } else if receives {
         let n = pair.len;
-        sent_cards::work(pair.first, pair.second, &second[..n]);
+        received::work(pair.first, pair.second, &second[..n]);
     } else {
         outcome::end_number(b"done", 0);
     }

@@ -75,8 +75,15 @@ module _ (s : Schedule) where
     piece-ok : (b : Bool) (a p : List ℕ) → pieceRefusal (at b a) (length p) ≡ 0 → feed (at b a) p ≡ fedAs refusal.done (at b (a ++ p))
     piece-ok b a p e = piece-done (at b a) p e ∙ ap (fedAs refusal.done) (fed-at b a p)
 
-    first-ok : (a : List ℕ) → length a ≤ limit → pieceRefusal (at false []) (length a) ≡ 0
-    first-ok a l = piece-accepted (at false []) (good-at false [] (omega arith)) (length a) refl (omega arith)
+    -- while it is open: a piece that the limit lets in, and a check
+    pub piece-at : (a p : List ℕ) → length (a ++ p) ≤ limit → feed (at false a) p ≡ fedAs refusal.done (at false (a ++ p))
+    piece-at a p l =
+        let n : length a + length p ≤ limit = rw (← length-append) l in
+        piece-ok false a p (piece-accepted (at false a) (good-at false a (omega arith)) (length p) refl n)
+
+    pub check-at : (a x : List ℕ) → length a ≤ limit → check (at false a) x ≡ checkedAs refusal.done (same x (cmac E a)) (at true a)
+    check-at a x l =
+        check-open (at false a) (good-at false a l) x refl ∙ ap (λ (t : List ℕ). checkedAs refusal.done (same x t) (at true a)) (seal-at false a)
 
     -- writing and a check leave the state as it was, or closed
     writing-next : (b : Bool) (a o : List ℕ) → (next (at b a) (writing o) ≡ at b a) ⊎ (next (at b a) (writing o) ≡ at true a)
@@ -158,13 +165,12 @@ module _ (s : Schedule) where
         let g : (b : Bool) → badState (at b A) ≡ false = λ b. good-at b A (r .small) in
         let q : (b : Bool) → after (fresh s) cs .closed ≡ b → at b A ≡ after (fresh s) cs = λ b u. ap (λ (t : Bool). at t A) (sym u) ∙ sym (r .state) in
         record {
-          once = λ u. piece-ok false [] A (first-ok A (r .small)) ∙ ap (fedAs refusal.done) (q false u);
+          once = λ u. piece-at [] A (r .small) ∙ ap (fedAs refusal.done) (q false u);
           written = λ u o h.
               subst (λ (v : Seal). (write v (length o) ≡ writtenAs refusal.done (closedSeal v)) × (writeOut v o ≡ cmac E A ++ drop 16 o)) (q false u)
               (let w = write-open (at false A) (g false) o refl h in (w .0, w .1 ∙ ap (λ (l : List ℕ). l ++ drop 16 o) (seal-at false A)));
           checked = λ u x.
-              subst (λ (v : Seal). check v x ≡ checkedAs refusal.done (same x (cmac E A)) (closedSeal v)) (q false u)
-              (check-open (at false A) (g false) x refl ∙ ap (λ (l : List ℕ). checkedAs refusal.done (same x l) (at true A)) (seal-at false A));
+              subst (λ (v : Seal). check v x ≡ checkedAs refusal.done (same x (cmac E A)) (closedSeal v)) (q false u) (check-at A x (r .small));
           ended = λ u.
               subst (λ (v : Seal). ((p : List ℕ) → feed v p ≡ fedAs refusal.closed v)
               × ((o : List ℕ) → (write v (length o) ≡ writtenAs refusal.closed v) × (writeOut v o ≡ o))

@@ -1,0 +1,4 @@
+pub mod Reached
+pub mod First
+pub mod Fronts
+pub mod Verdicts

@@ -1,0 +1,2 @@
+-- The bytes of a sent card.
+pub mod File
