@@ -1,9 +1,9 @@
 -- The fields of a slot as one value.
 use mathlib.Core.Path.{_≡_}
 use mathlib.Core.Bool.{true}
-use mathlib.Core.List.{List}
-use Prim.Native.Nat.{ℕ}
-use lib.ListN.{length}
+use mathlib.Core.List.{List, _∷_}
+use Prim.Native.Nat.{ℕ, _/_, _%_}
+use lib.ListN.{length, replicate}
 use Rattle.runs.specs.Zeros.{zeros}
 use Rattle.card_slots.specs.Slot as slot
 use Rattle.card_fields.specs.declared.Fields.{Fields}
@@ -22,3 +22,9 @@ pub record Laid (f : Fields) (s : List ℕ) : Type 0 where
   pub sixteen : length s ≡ 16
   pub has : Has s f
   pub nothing-behind : zeros (slot.rest s) ≡ true
+
+-- its bytes
+abbrev pub slotOf : Fields → List ℕ
+slotOf f =
+    f .recipe / 256 ∷ f .recipe % 256 ∷ f .segment ∷ f .kind ∷ f .target / 256 ∷ f .target % 256 ∷ f .rate / 256 ∷ f .rate % 256
+    ∷ f .hold / 256 ∷ f .hold % 256 ∷ replicate 6 0

@@ -1,6 +1,7 @@
 // The fields of a slot, read from its bytes and laid down in them (02, request 1).
 use card_slots::slot;
-ghost use Rattle.card_fields.specs.Fields.{Has, Laid};
+ghost use mathlib.Core.Path.{_≡_};
+ghost use Rattle.card_fields.specs.Fields.{Has, Laid, slotOf};
 
 pub const CLIMB: u8 = 1;
 
@@ -33,6 +34,7 @@ pub fn of(slot: [u8; 16]) -> Fields
 
 pub fn laid(f: Fields) -> [u8; 16]
     ensures { λ r. ⌜ Laid f r ⌝ }
+    ensures { λ r. ⌜ r ≡ slotOf f ⌝ }
 {
     [
         (f.recipe / 256) as u8,

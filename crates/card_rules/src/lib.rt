@@ -3,6 +3,9 @@
 use card_fields::Fields;
 use card_fields::laid;
 use wording::fill;
+ghost use mathlib.Core.Path.{_≡_};
+ghost use Rattle.card_rules.specs.Rules.{isKind, mayBe, inTenths};
+ghost use Rattle.card_rules.specs.code.LegalElse.{JudgedLaid, LegalElse};
 
 // The fields that hold numbers.
 pub const RECIPE: u8 = 0;
@@ -24,19 +27,25 @@ const LEGAL: Fields = Fields {
     hold: 0,
 };
 
-fn keeps_rules(f: Fields) -> bool {
+fn keeps_rules(f: Fields) -> bool
+    ensures { λ r. ⌜ JudgedLaid f r ⌝ }
+{
     let record = laid(f);
     card::good(&record)
 }
 
-pub fn is_kind(kind: u8) -> bool {
+pub fn is_kind(kind: u8) -> bool
+    ensures { λ r. ⌜ r ≡ isKind kind ⌝ }
+{
     let mut f = LEGAL;
     f.kind = kind;
     keeps_rules(f)
 }
 
 // At most 255, which no segment may be.
-fn byte(value: u16) -> u8 {
+fn byte(value: u16) -> u8
+    ensures { λ r. ⌜ mayBe 1 r ≡ mayBe 1 value ⌝ }
+{
     if value > 255 {
         return 255;
     }
@@ -44,7 +53,9 @@ fn byte(value: u16) -> u8 {
 }
 
 // A legal record with this number in this field.
-fn with(field: u8, value: u16) -> Fields {
+fn with(field: u8, value: u16) -> Fields
+    ensures { λ r. ⌜ LegalElse field value r ⌝ }
+{
     let mut f = LEGAL;
     match field {
         RECIPE => f.recipe = value,
@@ -57,14 +68,18 @@ fn with(field: u8, value: u16) -> Fields {
 }
 
 // May the field hold this number? One over 65535 has no place in any.
-pub fn may_be(field: u8, value: u64) -> bool {
+pub fn may_be(field: u8, value: u64) -> bool
+    ensures { λ r. ⌜ r ≡ mayBe field value ⌝ }
+{
     if value > 65535 {
         return false;
     }
     keeps_rules(with(field, value as u16))
 }
 
-pub fn is_in_tenths(field: u8) -> bool {
+pub fn is_in_tenths(field: u8) -> bool
+    ensures { λ r. ⌜ r ≡ inTenths field ⌝ }
+{
     (field == TARGET) | (field == RATE)
 }
 

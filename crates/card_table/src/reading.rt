@@ -7,28 +7,43 @@ use record_words::named;
 use record_words::record;
 use record_words::record::Record;
 use spelling::word;
-ghost use Prim.Native.Nat.{_≤_};
+ghost use mathlib.Core.Path.{_≡_};
+ghost use mathlib.Core.Bool.{true, false};
+ghost use Prim.Native.Nat.{_+_, _≤_, _<_};
+ghost use lib.ListN.{length, drop};
+ghost use Rattle.card_table.specs.Table as page;
+ghost use Rattle.card_table.specs.code.Line.{lineOf};
+ghost use Rattle.card_table.specs.code.State.{readOf};
+ghost use Rattle.cells.specs.Cells.{part as Cells·part};
 
-// Whether the table was good, and how many records it has.
+// Whether every line was right, and how many records were put.
 pub struct Table {
     pub good: bool,
     pub records: usize,
 }
 
 // The place behind a byte-order mark, or the beginning.
-fn behind_mark(table: &[u8]) -> usize {
+fn behind_mark(table: &[u8]) -> usize
+    ensures { λ r. ⌜ (drop r (now (table .entry)) ≡ page.behindMark (now (table .entry))) × (r ≤ length (now (table .entry))) ⌝ }
+{
     if table.len() < 3 {
         return 0;
     }
-    if (table[0] == 239) & (table[1] == 187) & (table[2] == 191) {
-        return 3;
+    if table[0] != 239 {
+        return 0;
     }
-    0
+    if table[1] != 187 {
+        return 0;
+    }
+    if table[2] != 191 {
+        return 0;
+    }
+    3
 }
 
 // The place of the next line feed, or the end.
 fn line_feed(table: &[u8], from: usize) -> usize
-    ensures { λ r. ⌜ from ≤ r ⌝ }
+    ensures { λ r. ⌜ r ≡ from + length (lineOf (drop from (now (table .entry)))) ⌝ }
 {
     let mut i = from;
     while i < table.len() {
@@ -41,7 +56,9 @@ fn line_feed(table: &[u8], from: usize) -> usize
 }
 
 // The line between two places, without a carriage return at its end.
-fn line(table: &[u8], from: usize, to: usize) -> &[u8] {
+fn line(table: &[u8], from: usize, to: usize) -> &[u8]
+    ensures { λ r. ⌜ now r ≡ page.withoutReturn (Cells·part from to (now (table .entry))) ⌝ }
+{
     let whole = part(table, from, to);
     let n = whole.len();
     if n > 0 {
@@ -52,7 +69,9 @@ fn line(table: &[u8], from: usize, to: usize) -> &[u8] {
     whole
 }
 
-fn is_header(line: &[u8]) -> bool {
+fn is_header(line: &[u8]) -> bool
+    ensures { λ r. ⌜ r ≡ page.isHeader (now (line .entry)) ⌝ }
+{
     let l = cells::count(line);
     if !l.good {
         return false;
@@ -99,8 +118,20 @@ fn already(card: &[u8], lines: &[usize], number: usize, f: Fields) {
     );
 }
 
+fn wrong(before: Table) -> Table
+    ensures { λ r. ⌜ r ≡ record { good = false; records = before .records } ⌝ }
+{
+    Table {
+        good: false,
+        records: before.records,
+    }
+}
+
 // A record put behind those that are there, if its pair is new and there is room.
-fn put(card: &mut [u8], lines: &mut [usize], before: Table, number: usize, f: Fields) -> Table {
+fn put(card: &mut [u8], lines: &mut [usize], before: Table, number: usize, f: Fields) -> Table
+    requires { ⌜ before .records < number ⌝ }
+    ensures { λ r. ⌜ readOf r (now (card .exit)) ≡ page.withRecord (readOf before (now (card .entry))) f ⌝ }
+{
     if card::find(card, f.recipe as u64, f.segment as u64).len() > 0 {
         already(card, lines, number, f);
         return wrong(before);
@@ -115,12 +146,14 @@ fn put(card: &mut [u8], lines: &mut [usize], before: Table, number: usize, f: Fi
     note(lines, before.records, number);
     Table {
         good: before.good,
-        records: before.records % 256 + 1,
+        records: before.records + 1,
     }
 }
 
 // The record of a line of six cells, if all of them are right.
-fn record_of(number: usize, line: &[u8]) -> Record {
+fn record_of(number: usize, line: &[u8]) -> Record
+    ensures { λ r. ⌜ r ≡ page.recordIn (now (line .entry)) ⌝ }
+{
     let recipe = record::number(number, card_rules::RECIPE, text(line, 0));
     let segment = record::number(number, card_rules::SEGMENT, text(line, 1));
     let kind = record::kind(number, text(line, 2));
@@ -130,50 +163,26 @@ fn record_of(number: usize, line: &[u8]) -> Record {
     record::of(recipe, segment, kind, target, rate, hold)
 }
 
-// Whether a line that is not the header may be put: it has something, and six cells. Where it may not, that is said.
-struct Seen {
-    good: bool,
-    filled: bool,
-}
-
-fn looked_at(number: usize, line: &[u8]) -> Seen {
+// A line read and put. Where it is wrong, that is said.
+fn row(card: &mut [u8], lines: &mut [usize], before: Table, number: usize, line: &[u8]) -> Table
+    requires { ⌜ before .records < number ⌝ }
+    ensures { λ r. ⌜ readOf r (now (card .exit)) ≡ page.withLine (readOf before (now (card .entry))) (now (line .entry)) ⌝ }
+{
     let l = cells::count(line);
     if !l.good {
         named::plain(number, b"a quote is out of place");
-        return Seen {
-            good: false,
-            filled: true,
-        };
+        return wrong(before);
     }
-    let good = !l.filled | (l.cells == 6);
-    if !good {
+    if !l.filled {
+        return before;
+    }
+    if l.cells != 6 {
         named::sentence(
             number,
             b"$ fields stand where 6 are wanted",
             &[l.cells as u64],
         );
-    }
-    Seen {
-        good,
-        filled: l.filled,
-    }
-}
-
-fn wrong(before: Table) -> Table {
-    Table {
-        good: false,
-        records: before.records,
-    }
-}
-
-// A line read and put.
-fn row(card: &mut [u8], lines: &mut [usize], before: Table, number: usize, line: &[u8]) -> Table {
-    let r = looked_at(number, line);
-    if !r.good {
         return wrong(before);
-    }
-    if !r.filled {
-        return before;
     }
     let record = record_of(number, line);
     if !record.ok {
@@ -182,8 +191,11 @@ fn row(card: &mut [u8], lines: &mut [usize], before: Table, number: usize, line:
     put(card, lines, before, number, record.fields)
 }
 
-// The lines behind the header. What stands behind the last line feed is a line only if there is something.
-fn rows(table: &[u8], from: usize, card: &mut [u8], lines: &mut [usize]) -> Table {
+// The lines from a place on, which stand behind the header.
+fn rows(table: &[u8], from: usize, card: &mut [u8], lines: &mut [usize]) -> Table
+    requires { ⌜ 1 ≤ from ⌝ }
+    ensures { λ r. ⌜ readOf r (now (card .exit)) ≡ page.withLines (page.readAs true 0 (now (card .entry))) (page.lines (drop from (now (table .entry)))) ⌝ }
+{
     let mut read = Table {
         good: true,
         records: 0,
@@ -192,30 +204,23 @@ fn rows(table: &[u8], from: usize, card: &mut [u8], lines: &mut [usize]) -> Tabl
     let mut at = from;
     while at < table.len() {
         let end = line_feed(table, at);
-        number = number % 65536 + 1;
+        number += 1;
         read = row(card, lines, read, number, line(table, at, end));
-        if end >= table.len() {
-            return read;
-        }
         at = end + 1;
     }
     read
 }
 
-// The table's records at the front of the card, whose 256 slots are empty.
-pub fn read(table: &[u8], card: &mut [u8], lines: &mut [usize]) -> Table {
+// The table's records put on the card. `lines` gets the line that each stands on.
+pub fn read(table: &[u8], card: &mut [u8], lines: &mut [usize]) -> Table
+    ensures { λ r. ⌜ readOf r (now (card .exit)) ≡ page.readTable (now (table .entry)) (now (card .entry)) ⌝ }
+{
     let begin = behind_mark(table);
     let end = line_feed(table, begin);
     if !is_header(line(table, begin, end)) {
         named::plain(1, b"the header is not recipe,segment,kind,target,rate,hold");
         return Table {
             good: false,
-            records: 0,
-        };
-    }
-    if end >= table.len() {
-        return Table {
-            good: true,
             records: 0,
         };
     }

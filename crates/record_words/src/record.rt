@@ -4,6 +4,8 @@ use card_fields::Fields;
 use spelling::number as numbers;
 use spelling::number::Spelled;
 use spelling::word;
+ghost use mathlib.Core.Path.{_≡_};
+ghost use Rattle.record_words.specs.Record as spec;
 
 // A field's number, if its text is right.
 pub struct Field {
@@ -22,7 +24,9 @@ pub struct Record {
     pub fields: Fields,
 }
 
-fn spelled(field: u8, text: &[u8]) -> Spelled {
+fn spelled(field: u8, text: &[u8]) -> Spelled
+    ensures { λ r. ⌜ r ≡ spec.spelledIn field (now (text .entry)) ⌝ }
+{
     if card_rules::is_in_tenths(field) {
         return numbers::tenths(text);
     }
@@ -30,7 +34,9 @@ fn spelled(field: u8, text: &[u8]) -> Spelled {
 }
 
 // A number of a line; where it is wrong, that is said.
-pub fn number(line: usize, field: u8, text: &[u8]) -> Field {
+pub fn number(line: usize, field: u8, text: &[u8]) -> Field
+    ensures { λ r. ⌜ r ≡ spec.numberIn field (now (text .entry)) ⌝ }
+{
     let n = spelled(field, text);
     if !n.ok {
         named::no_number(line, field);
@@ -42,12 +48,14 @@ pub fn number(line: usize, field: u8, text: &[u8]) -> Field {
     }
     Field {
         ok: true,
-        value: (n.value % 65536) as u16,
+        value: n.value as u16,
     }
 }
 
 // A kind's number; where there is none, that is said.
-pub fn kind(line: usize, text: &[u8]) -> Field {
+pub fn kind(line: usize, text: &[u8]) -> Field
+    ensures { λ r. ⌜ r ≡ spec.kindOf (now (text .entry)) ⌝ }
+{
     if word::is(text, b"climb") {
         return right(card_fields::CLIMB);
     }
@@ -61,7 +69,9 @@ pub fn kind(line: usize, text: &[u8]) -> Field {
     WRONG
 }
 
-fn right(kind: u8) -> Field {
+fn right(kind: u8) -> Field
+    ensures { λ r. ⌜ r ≡ spec.right kind ⌝ }
+{
     Field {
         ok: true,
         value: kind as u16,
@@ -75,7 +85,9 @@ pub fn of(
     target: Field,
     rate: Field,
     hold: Field,
-) -> Record {
+) -> Record
+    ensures { λ r. ⌜ r ≡ spec.recordOf recipe segment kind target rate hold ⌝ }
+{
     Record {
         ok: recipe.ok & segment.ok & kind.ok & target.ok & rate.ok & hold.ok,
         fields: Fields {

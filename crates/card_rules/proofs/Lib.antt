@@ -1,0 +1,3 @@
+pub mod OneSlot
+pub mod FieldByField
+pub mod LegalElse

@@ -1,0 +1,3 @@
+-- What serves the code alone. Who lays the page beside the definition may skip it.
+pub mod Line
+pub mod State

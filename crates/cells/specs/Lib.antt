@@ -1,0 +1,3 @@
+-- A line of a table cut into cells.
+pub mod Cells
+pub mod code

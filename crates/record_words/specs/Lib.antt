@@ -1,0 +1,2 @@
+-- A record as a person writes it.
+pub mod Record
