@@ -64,7 +64,7 @@ returns-3 c =
     let one = two .before .before in
     let loop = one .before .before in
     let l = loop .before .before .before .before .before .before .before .before .args .line .now in
-    sym (spells-not l (loop .loop .k) (one .before .loop-test .taken)
+    sym (spells-not l (loop .loop .k) (omega arith)
     (said l (loop .loop .k) (one .text .ensures) (two .text2 .ensures) (asked .is .ensures) (not-true _ (c .if3 .taken))))
     ∙ loop .loop .inv .1
 
@@ -82,7 +82,7 @@ loop-again c =
     let loop = one .before .before in
     let l = loop .before .before .before .before .before .before .before .before .args .line .now in (
       omega arith,
-      sym (spells-on l (loop .loop .k) (one .before .loop-test .taken)
+      sym (spells-on l (loop .loop .k) (omega arith)
           (said l (loop .loop .k) (one .text .ensures) (two .text2 .ensures) (asked .is .ensures) (not-false _ (c .if3 .left))))
           ∙ loop .loop .inv .1,
     )
@@ -91,7 +91,7 @@ returns-4 : tie.Need-returns-4 Inv-loop μ-loop
 returns-4 c =
     let loop = c .before in
     let l = loop .before .before .before .before .before .before .before .before .args .line .now in
-    sym (spells-all l (loop .loop .k) (c .loop-test .left)) ∙ loop .loop .inv .1
+    sym (spells-all l (loop .loop .k) (omega arith)) ∙ loop .loop .inv .1
 
 pub is-header-spec : {M : Type 1} → statement M
 is-header-spec =
