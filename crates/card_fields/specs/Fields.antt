@@ -3,9 +3,12 @@ use mathlib.Core.Path.{_≡_}
 use mathlib.Core.Bool.{true}
 use mathlib.Core.List.{List, _∷_}
 use Prim.Native.Nat.{ℕ, _/_, _%_}
+use lib.Dec.{ltb}
 use lib.ListN.{length, replicate}
+use Rattle.laws.specs.Choice.{choose}
 use Rattle.runs.specs.Zeros.{zeros}
 use Rattle.card_slots.specs.Slot as slot
+use Rattle.card_slots.specs.Card as cards
 use Rattle.card_fields.specs.declared.Fields.{Fields}
 
 -- what a slot has in its fields
@@ -28,3 +31,7 @@ abbrev pub slotOf : Fields → List ℕ
 slotOf f =
     f .recipe / 256 ∷ f .recipe % 256 ∷ f .segment ∷ f .kind ∷ f .target / 256 ∷ f .target % 256 ∷ f .rate / 256 ∷ f .rate % 256
     ∷ f .hold / 256 ∷ f .hold % 256 ∷ replicate 6 0
+
+-- ---- a slot of a card, or zeros where the card has no such slot
+unfoldable pub slotAt : List ℕ → ℕ → List ℕ
+slotAt card i = choose (ltb i (length card / 16)) (cards.slot card i) (replicate 16 0)

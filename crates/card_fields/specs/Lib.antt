@@ -1,2 +1,3 @@
--- The fields of a slot as one value.
+-- The fields of a slot as one value, and the kinds by name.
 pub mod Fields
+pub mod Kinds

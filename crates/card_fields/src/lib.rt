@@ -1,7 +1,7 @@
 // The fields of a slot, read from its bytes and laid down in them (02, request 1).
 use card_slots::slot;
 ghost use mathlib.Core.Path.{_≡_};
-ghost use Rattle.card_fields.specs.Fields.{Has, Laid, slotOf};
+ghost use Rattle.card_fields.specs.Fields.{Has, Laid, slotOf, slotAt};
 
 pub const CLIMB: u8 = 1;
 
@@ -57,7 +57,9 @@ pub fn laid(f: Fields) -> [u8; 16]
 }
 
 // Slot i of a card, or zeros where the card has no such slot.
-pub fn slot(card: &[u8], i: usize) -> [u8; 16] {
+pub fn slot(card: &[u8], i: usize) -> [u8; 16]
+    ensures { λ r. ⌜ r ≡ slotAt (now (card .entry)) i ⌝ }
+{
     if i < card.len() / 16 {
         return runs::block_at(card, i * 16);
     }
@@ -65,6 +67,8 @@ pub fn slot(card: &[u8], i: usize) -> [u8; 16] {
 }
 
 // Its fields.
-pub fn at(card: &[u8], i: usize) -> Fields {
+pub fn at(card: &[u8], i: usize) -> Fields
+    ensures { λ r. ⌜ Has (slotAt (now (card .entry)) i) r ⌝ }
+{
     of(slot(card, i))
 }

@@ -1,3 +1,4 @@
 pub mod Lines
 pub mod Headers
 pub mod Records
+pub mod WrittenLines

@@ -1,35 +1,15 @@
--- A card written as a table (docs/BENCH.md, 'Numbers' and 'The table'). Characters are ASCII numbers: point 46, comma 44, line feed 10.
-use mathlib.Core.Bool.{Bool}
+-- A card written as a table (docs/BENCH.md, 'The table'). Characters are ASCII numbers: comma 44, line feed 10.
 use mathlib.Core.List.{List, [], _∷_, _++_}
-use Prim.Native.Nat.{ℕ, zero, suc, _+_, _/_, _%_}
-use lib.Dec.{eqb, ltb}
+use Prim.Native.Nat.{ℕ}
+use lib.Dec.{eqb}
 use Rattle.laws.specs.Choice.{choose}
 use Rattle.card_slots.specs.Slot.{recipe, segment, kind, target, rate, holdMinutes}
 use Rattle.card_slots.specs.Card.{slots}
-use Rattle.record_words.specs.Record.{climb, hold, drop}
+use Rattle.card_fields.specs.Kinds.{kindText}
+use Rattle.wording.specs.Numbers.{decimal, inTenths}
 use Rattle.card_table.specs.Table.{header}
 
--- ---- numbers
-abbrev pub digit : ℕ → ℕ
-digit d = 48 + d
-
--- in decimal digits without leading zeros, at most n + 1 of them
-abbrev pub atMost : ℕ → ℕ → List ℕ
-atMost zero x = digit (x % 10) ∷ []
-atMost (suc n) x = choose (ltb x 10) (digit x ∷ []) (atMost n (x / 10) ++ digit (x % 10) ∷ [])
-
--- of 64 bits
-unfoldable pub decimal : ℕ → List ℕ
-decimal x = atMost 19 x
-
--- a number of tenths
-unfoldable pub inTenths : ℕ → List ℕ
-inTenths x = decimal (x / 10) ++ 46 ∷ decimal (x % 10)
-
 -- ---- lines
-unfoldable pub kindText : ℕ → List ℕ
-kindText k = choose (eqb k 1) climb (choose (eqb k 2) hold drop)
-
 unfoldable pub lineOf : List ℕ → List ℕ
 lineOf s =
     decimal (recipe s) ++ 44 ∷ decimal (segment s) ++ 44 ∷ kindText (kind s) ++ 44 ∷ inTenths (target s) ++ 44 ∷ inTenths (rate s)

@@ -23,7 +23,9 @@ use Rattle.cells.specs.Cells.{cells, textOf}
 use Rattle.record_words.specs.Record.{right, spelledIn, numberIn, kindOf, recordOf}
 use Rattle.record_words.specs.declared.record.Record.{Record}
 use Rattle.card_table.specs.Table.{recordIn, Read, withRecord, withLine}
-use Rattle.card_table.specs.Written.{decimal, inTenths, kindText, lineOf}
+use Rattle.wording.specs.Numbers.{decimal, inTenths}
+use Rattle.card_fields.specs.Kinds.{kindText}
+use Rattle.card_table.specs.Written.{lineOf}
 use Rattle.card_table.proofs.Records.{right-fields}
 use Rattle.card_table_laws.specs.Texts.{Only, NoBreak, SixCells}
 use Rattle.card_table_laws.specs.Written.{fieldsOf}

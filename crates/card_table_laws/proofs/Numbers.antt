@@ -17,8 +17,8 @@ use Rattle.card_slots.specs.Card.{every}
 use Rattle.spelling.specs.Number.{digits, behind, value, number, spelled, whole, tenths}
 use Rattle.spelling.specs.Number as read
 use Rattle.spelling.proofs.Answers.{tenths-pointed}
-use Rattle.record_words.specs.Record.{climb, hold, drop}
-use Rattle.card_table.specs.Written.{digit, atMost, decimal, inTenths, kindText}
+use Rattle.wording.specs.Numbers.{digit, atMost, decimal, inTenths}
+use Rattle.card_fields.specs.Kinds.{climb, hold, drop, kindText}
 use Rattle.card_table_laws.specs.Texts.{Only, Digit, DigitOrPoint, Letter, PlainCharacter, Plain, NoBreak}
 
 -- ---- of every character

@@ -3,8 +3,12 @@ use card_fields::Fields;
 use firing::Time;
 use wording::fill;
 use wording::words;
+ghost use Rattle.card_fields.specs.Kinds.{kindText};
+ghost use Rattle.wording.specs.Laid.{Puts};
 
-pub fn kind(out: &mut [u8], at: usize, kind: u8) -> usize {
+pub fn kind(out: &mut [u8], at: usize, kind: u8) -> usize
+    ensures { λ r. ⌜ Puts (kindText kind) (now (out .entry)) at (now (out .exit)) r ⌝ }
+{
     match kind {
         card_fields::CLIMB => words(out, at, b"climb"),
         card_fields::HOLD => words(out, at, b"hold"),

@@ -1,6 +1,5 @@
-// A card made from a table, written as one, or with a record put on it (docs/BENCH.md). The first argument says which:
+// A card made from a table, or with a record put on it (docs/BENCH.md). The first argument says which:
 //     from TABLE OUT
-//     table CARD OUT
 //     put CARD RECIPE SEGMENT KIND TARGET RATE HOLD OUT
 // Standard output carries the outcome in its last line; before it stand the lines or fields that break a rule.
 mod put;
@@ -13,8 +12,6 @@ use recipe_words::outcome;
 fn main() {
     if is(COMMAND, b"from") {
         table::read();
-    } else if is(COMMAND, b"table") {
-        table::write();
     } else if is(COMMAND, b"put") {
         put::put();
     } else {

@@ -1,8 +1,6 @@
-// A card made from a table, and written as one.
-use card_files::input;
+// A card made from a table.
 use card_files::output;
 use card_table::reading;
-use card_table::writing;
 use recipe_words::files;
 use recipe_words::outcome;
 use wording::front;
@@ -33,22 +31,4 @@ pub fn read() {
         return;
     }
     onto_card(front(&text, t.len));
-}
-
-fn of_card(card: &[u8]) {
-    if !input::is_good(card, b"card") {
-        return;
-    }
-    let mut out = io::large_buffer();
-    let n = writing::write(&mut out, card);
-    output::all(OUT, &out, n);
-}
-
-pub fn write() {
-    let mut space = [0u8; 4113];
-    let c = input::card(input::CARD, &mut space);
-    if !c.ok {
-        return;
-    }
-    of_card(front(&space, c.len));
 }

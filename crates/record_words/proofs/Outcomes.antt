@@ -10,7 +10,8 @@ use Rattle.spelling.specs.Word.{spells}
 use Rattle.spelling.specs.declared.number.Spelled.{Spelled}
 use Rattle.card_rules.specs.Rules.{mayBe, inTenths}
 use Rattle.card_rules.proofs.LegalElse.{over-two-bytes}
-use Rattle.record_words.specs.Record.{right, wrong, spelledIn, numberIn, climb, hold, drop, kindOf}
+use Rattle.card_fields.specs.Kinds.{climb, hold, drop}
+use Rattle.record_words.specs.Record.{right, wrong, spelledIn, numberIn, kindOf}
 
 -- ---- a number
 module _ (field : ℕ) (text : List ℕ) where

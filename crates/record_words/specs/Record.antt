@@ -1,11 +1,12 @@
 -- What the text of a field is taken for (docs/BENCH.md, 'The table'). Characters are ASCII numbers.
 use mathlib.Core.Bool.{true, false, _&&_}
-use mathlib.Core.List.{List, [], _∷_}
+use mathlib.Core.List.{List}
 use Prim.Native.Nat.{ℕ, _%_}
 use Rattle.laws.specs.Choice.{choose}
 use Rattle.spelling.specs.Number.{whole, tenths}
 use Rattle.spelling.specs.Word.{spells}
 use Rattle.spelling.specs.declared.number.Spelled.{Spelled}
+use Rattle.card_fields.specs.Kinds.{climb, hold, drop}
 use Rattle.card_rules.specs.Rules.{mayBe, inTenths}
 use Rattle.record_words.specs.declared.record.Field.{Field}
 use Rattle.record_words.specs.declared.record.Record.{Record}
@@ -25,15 +26,6 @@ numberIn field text =
     choose (spelledIn field text .ok && mayBe field (spelledIn field text .value)) (right (spelledIn field text .value)) wrong
 
 -- ---- a kind, in capital or small letters
-abbrev pub climb : List ℕ
-climb = 99 ∷ 108 ∷ 105 ∷ 109 ∷ 98 ∷ []
-
-abbrev pub hold : List ℕ
-hold = 104 ∷ 111 ∷ 108 ∷ 100 ∷ []
-
-abbrev pub drop : List ℕ
-drop = 100 ∷ 114 ∷ 111 ∷ 112 ∷ []
-
 unfoldable pub kindOf : List ℕ → Field
 kindOf text =
     choose (spells text climb) (right 1)

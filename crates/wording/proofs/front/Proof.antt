@@ -1,3 +1,6 @@
+use mathlib.Core.Path.{sym}
+use native.Mathlib.Omega.{arith}
+use lib.Seq.{take-all}
 use Rattle.io.proofs.Counting.{front}
 use borrow.Author.Needs.{needs}
 use Rattle.wording.proofs.front.Statement.{statement}
@@ -10,7 +13,9 @@ returns : tie.Need-returns
 returns c = search needs
 
 returns-2 : tie.Need-returns-2
-returns-2 c = search needs
+returns-2 c =
+    let a = c .before .args in
+    sym (take-all (a .at) (a .out .now) (omega arith))
 
 pub front-spec : {M : Type 1} → statement M
 front-spec = tie.close (tie.spec slice-aggregate-result returns returns-2)

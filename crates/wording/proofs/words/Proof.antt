@@ -1,24 +1,38 @@
-use mathlib.Core.Path.{_≡_}
-use Prim.Native.Nat.{_-_, _≤_}
-use lib.ListN.{length}
+use mathlib.Core.Path.{_≡_, refl, _∙_}
+use Prim.Native.Nat.{_+_, _-_, _≤_}
+use native.Mathlib.Omega.{arith}
+use lib.ListN.{length, drop}
 use borrow.Author.Needs.{needs}
+use Rattle.wording.specs.Laid.{laid}
+use Rattle.wording.proofs.Laying.{next-laid, puts-outside, puts-cut, puts-whole}
 use Rattle.wording.proofs.words.Statement.{statement}
 use Rattle.wording.proofs.words.Tie as tie
 
 abbrev Inv-loop : tie.InvT-loop
-Inv-loop out₀ at text to₀ i₀ out to i = (length out ≡ length out₀) × (i ≤ length text)
+Inv-loop out₀ at text to₀ i₀ out to i =
+    (length out ≡ length out₀) × (to ≤ length out₀) × (i ≤ length text) × (to ≡ at + i) × (laid out to (drop i text) ≡ laid out₀ at text)
 
 abbrev μ-loop : tie.MeasureT-loop
 μ-loop out₀ at text to₀ i₀ out to i = length text - i
 
+returns : tie.Need-returns Inv-loop μ-loop
+returns c =
+    let a = c .before .args in
+    puts-outside (a .text .now) (a .out .now) (a .at) (omega arith)
+
 loop-holds : tie.Need-loop-holds Inv-loop μ-loop
-loop-holds c = search needs
+loop-holds c = (refl, omega arith, omega arith, omega arith, refl)
 
 same-length : tie.Need-same-length Inv-loop μ-loop
 same-length c = search needs
 
-returns : tie.Need-returns Inv-loop μ-loop
-returns c = search needs
+returns-2 : tie.Need-returns-2 Inv-loop μ-loop
+returns-2 c =
+    let loop = c .before .before in
+    let a = loop .before .before .args in
+    let inv = loop .loop .inv in
+    puts-cut (a .text .now) (a .out .now) (a .at) (loop .loop .out) (loop .loop .to) (loop .loop .i) (inv .0) (inv .3) (inv .4)
+    (c .before .loop-test .taken) (c .if2 .taken)
 
 shared-slice-read-out : tie.Need-shared-slice-read-out Inv-loop μ-loop
 shared-slice-read-out c = search needs
@@ -36,13 +50,27 @@ loop-less : tie.Need-loop-less Inv-loop μ-loop
 loop-less c = search needs
 
 loop-again : tie.Need-loop-again Inv-loop μ-loop
-loop-again c = search needs
+loop-again c =
+    let loop = c .before .before .before in
+    let text = loop .before .before .args .text .now in (
+      search needs,
+      search needs,
+      search needs,
+      omega arith,
+      next-laid (loop .loop .out) (loop .loop .to) text (loop .loop .i) (c .before .if2 .left) (c .before .before .loop-test .taken)
+          ∙ loop .loop .inv .4,
+    )
 
 same-length-2 : tie.Need-same-length-2 Inv-loop μ-loop
 same-length-2 c = search needs
 
-returns-2 : tie.Need-returns-2 Inv-loop μ-loop
-returns-2 c = search needs
+returns-3 : tie.Need-returns-3 Inv-loop μ-loop
+returns-3 c =
+    let loop = c .before in
+    let a = loop .before .before .args in
+    let inv = loop .loop .inv in
+    puts-whole (a .text .now) (a .out .now) (a .at) (loop .loop .out) (loop .loop .to) (loop .loop .i) (inv .0) (inv .3) (inv .4)
+    (omega arith) (inv .1)
 
 pub words-spec : {M : Type 1} → statement M
 words-spec =
@@ -50,9 +78,10 @@ words-spec =
     (tie.spec
     Inv-loop
     μ-loop
+    returns
     loop-holds
     same-length
-    returns
+    returns-2
     shared-slice-read-out
     slice-write-out
     add-to
@@ -60,4 +89,4 @@ words-spec =
     loop-less
     loop-again
     same-length-2
-    returns-2)
+    returns-3)
