@@ -15,7 +15,7 @@ returns : tie.Need-returns
 returns c =
     let front = c .before in
     let a = front .before .before .before .args in
-    is-lengthened (a .first) (a .second) (a .key .now) (a .file .now) (front .sealed-front .result) (front .sealed-front .ensures .0) (c .if1 .taken)
+    is-lengthened (a .first) (a .second) (a .key .now) (a .file .now) (front .sealed-front .result) (front .sealed-front .ensures .0) (omega (arith, c .if1 .taken))
 
 is-sealed-requires : tie.Need-is-sealed-requires
 is-sealed-requires c κs = search needs
@@ -26,7 +26,7 @@ returns-2 c =
     let none = asked .before in
     let front = none .before in
     let a = front .before .before .before .args in
-    is-exchanged (a .first) (a .second) (a .key .now) (a .file .now) (front .sealed-front .result) (front .sealed-front .ensures .0) (none .if1 .left)
+    is-exchanged (a .first) (a .second) (a .key .now) (a .file .now) (front .sealed-front .result) (front .sealed-front .ensures .0) (omega (arith, none .if1 .left))
     (sym (asked .is-sealed .ensures) ∙ c .if2 .taken)
 
 sealed-by-requires : tie.Need-sealed-by-requires
@@ -40,7 +40,7 @@ returns-3 c =
     let none = asked .before in
     let front = none .before in
     let a = front .before .before .before .args in
-    is-other (a .first) (a .second) (a .key .now) (a .file .now) (front .sealed-front .result) (front .sealed-front .ensures .0) (none .if1 .left)
+    is-other (a .first) (a .second) (a .key .now) (a .file .now) (front .sealed-front .result) (front .sealed-front .ensures .0) (omega (arith, none .if1 .left))
     (sym (asked .is-sealed .ensures) ∙ not .if2 .left) (other .sealed-by .result) (other .sealed-by .ensures) (c .if3 .taken)
 
 returns-4 : tie.Need-returns-4
@@ -51,7 +51,7 @@ returns-4 c =
     let none = asked .before in
     let front = none .before in
     let a = front .before .before .before .args in
-    is-nothing (a .first) (a .second) (a .key .now) (a .file .now) (front .sealed-front .result) (front .sealed-front .ensures .0) (none .if1 .left)
+    is-nothing (a .first) (a .second) (a .key .now) (a .file .now) (front .sealed-front .result) (front .sealed-front .ensures .0) (omega (arith, none .if1 .left))
     (sym (asked .is-sealed .ensures) ∙ not .if2 .left) (other .sealed-by .result) (other .sealed-by .ensures) (c .if3 .left)
 
 pub explain-spec : {M : Type 1} → statement M

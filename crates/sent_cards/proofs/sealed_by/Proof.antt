@@ -43,7 +43,7 @@ returns c =
     let made = asked .before in
     let loop = made .before .before in
     let a = loop .before .before .before .args in
-    first-here (isSealed (a .key .now) (a .file .now)) (loop .loop .number) 10 (made .before .loop-test .taken)
+    first-here (isSealed (a .key .now) (a .file .now)) (loop .loop .number) 10 (omega arith)
     (said (a .key .now) (a .file .now) (loop .loop .number) (made .set-up .result) (asked .is-sealed .result) (made .set-up .ensures) (asked .is-sealed .ensures)
     ∙ c .if1 .taken)
     ∙ sym (loop .loop .inv .3)
@@ -64,7 +64,7 @@ loop-again c =
       omega arith,
       omega arith,
       loop .loop .inv .3
-          ∙ first-later (isSealed (a .key .now) (a .file .now)) (loop .loop .number) 10 (made .before .loop-test .taken)
+          ∙ first-later (isSealed (a .key .now) (a .file .now)) (loop .loop .number) 10 (omega arith)
           (said (a .key .now) (a .file .now) (loop .loop .number) (made .set-up .result) (asked .is-sealed .result) (made .set-up .ensures) (asked .is-sealed .ensures)
           ∙ c .if1 .left),
     )
@@ -73,7 +73,7 @@ returns-2 : tie.Need-returns-2 Inv-loop μ-loop
 returns-2 c =
     let loop = c .before in
     let a = loop .before .before .before .args in
-    first-none (isSealed (a .key .now) (a .file .now)) (loop .loop .number) 10 (c .loop-test .left) ∙ sym (loop .loop .inv .3)
+    first-none (isSealed (a .key .now) (a .file .now)) (loop .loop .number) 10 (omega arith) ∙ sym (loop .loop .inv .3)
 
 pub sealed-by-spec : {M : Type 1} → statement M
 sealed-by-spec =

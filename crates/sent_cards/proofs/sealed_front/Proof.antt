@@ -45,7 +45,7 @@ returns c =
     let begun = loop .before .before in
     let a = begun .before .before .args in
     let looked = loop .loop .inv .3 (a .schedule) (started (a .schedule) (begun .start .result) (begun .start .ensures)) in (
-      front-found (a .schedule) (a .file .now) (omega arith) (loop .loop .seal) (loop .loop .n) looked (stepped .before .loop-test .taken) (stepped .step .result)
+      front-found (a .schedule) (a .file .now) (omega arith) (loop .loop .seal) (loop .loop .n) looked (omega (arith, stepped .before .loop-test .taken)) (stepped .step .result)
           (stepped .step .ensures) (c .if1 .taken),
       omega arith,
     )
@@ -65,7 +65,7 @@ loop-again c =
       omega arith,
       omega arith,
       λ s e.
-          looked-on s (a .file .now) (omega arith) (loop .loop .seal) (loop .loop .n) (loop .loop .inv .3 s e) (stepped .before .loop-test .taken)
+          looked-on s (a .file .now) (omega arith) (loop .loop .seal) (loop .loop .n) (loop .loop .inv .3 s e) (omega (arith, stepped .before .loop-test .taken))
           (stepped .step .result) (stepped .step .ensures) (c .before .if1 .left),
     )
 
