@@ -1,4 +1,6 @@
 // Blocks under a cipher's round keys, with the tables lent that the cipher needs.
+#![tactic(auto)]
+
 pub mod alone;
 pub mod chain;
 

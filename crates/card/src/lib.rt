@@ -1,4 +1,6 @@
 // Recipe cards: whether a card is good, finding a recipe's segment, putting a record (02, request 1). No cipher is known here.
+#![tactic(auto)]
+
 ghost use Rattle.std.specs.Prelude.{◌≡◌, length};
 ghost use Rattle.card_slots.specs.Card.{slots};
 ghost use Rattle.card.specs.Put.{goes_to};

@@ -1,5 +1,7 @@
 // The calls of a script on cards. No card is kept: each call has its own, and one that may change it writes it whole.
 // Each says whether the script had all of the call.
+#![tactic(auto)]
+
 use script::{reading, writing};
 
 pub fn good() -> bool {

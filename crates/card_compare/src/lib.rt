@@ -1,4 +1,6 @@
 // What the apprentice changed: the differences of two recipe cards, as a list of records of four bytes (02, request 6).
+#![tactic(auto)]
+
 mod list;
 mod merge;
 

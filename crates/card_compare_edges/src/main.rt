@@ -1,4 +1,6 @@
 // The edge cases of comparing two recipe cards (02, request 6), run and shown: for each its answer, its list, and what stands behind it.
+#![tactic(auto)]
+
 mod show;
 
 use card_records::{empty, full, record, three};

@@ -1,4 +1,6 @@
 // The firing of a recipe as a picture (docs/BENCH.md, 'card curve').
+#![tactic(auto)]
+
 mod frame;
 mod labels;
 mod lines;

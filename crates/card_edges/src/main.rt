@@ -1,4 +1,6 @@
 // The edge cases of recipe cards (02, request 1), run and shown: for each card whether it is good, and below it its finds and puts.
+#![tactic(auto)]
+
 mod show;
 
 use card_records::{empty, full, record, three};

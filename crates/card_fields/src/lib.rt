@@ -1,4 +1,6 @@
 // The fields of a slot, read from its bytes and laid down in them (02, request 1).
+#![tactic(auto)]
+
 ghost use Rattle.std.specs.Prelude.{◌≡◌};
 ghost use Rattle.card_fields.specs.Fields.{Has, Laid, slot_of, slot_at};
 

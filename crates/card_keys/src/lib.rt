@@ -1,4 +1,6 @@
 // The filled slots of a card by recipe, then segment: a key for each, of its pair and its number on the card.
+#![tactic(auto)]
+
 ghost use Rattle.std.specs.Prelude.{◌≡◌, ◌≤◌, ◌<◌, ◌/◌, length, take};
 ghost use Rattle.card_slots.specs.Card.{slots};
 ghost use Rattle.card_keys.specs.code.Keys as spec;

@@ -1,4 +1,6 @@
 // The records and cards of the edge cases.
+#![tactic(auto)]
+
 ghost use Rattle.std.specs.Prelude.{◌≤◌};
 
 use card_fields::Fields;

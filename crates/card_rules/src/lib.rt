@@ -1,5 +1,7 @@
 // Which field breaks the rules of a card, and in what words. Each is judged by the proved call, on a record that has this
 // field and is legal else.
+#![tactic(auto)]
+
 ghost use Rattle.std.specs.Prelude.{◌≡◌};
 ghost use Rattle.card_rules.specs.Rules.{is_kind, may_be, in_tenths};
 ghost use Rattle.card_rules.specs.code.LegalElse.{JudgedLaid, LegalElse};

@@ -1,4 +1,6 @@
 // The segments of a judged card, by recipe, then number: `keys` are those that the card's judge puts in order.
+#![tactic(auto)]
+
 use card_fields::Fields;
 
 // The first n keys, or all.

@@ -1,4 +1,6 @@
 // What host/bench measures of cards: a card judged, a segment looked for, and two cards compared.
+#![tactic(auto)]
+
 ghost use Rattle.card_speed.specs.Works.{MeasuresGood, MeasuresFind, MeasuresCompare};
 
 // 1 where the card is good, else 0.

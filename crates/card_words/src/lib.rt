@@ -1,4 +1,6 @@
 // A segment in words, and how long a recipe takes (docs/BENCH.md).
+#![tactic(auto)]
+
 ghost use Rattle.card_fields.specs.Kinds.{kind_text};
 ghost use Rattle.wording.specs.Laid.{Puts};
 

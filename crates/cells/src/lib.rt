@@ -1,4 +1,6 @@
 // A line of a table cut into cells, as spreadsheets write them: at commas, a cell perhaps in quotes (docs/BENCH.md, 'The table').
+#![tactic(auto)]
+
 ghost use Rattle.std.specs.Prelude.{◌≡◌, ◌≤◌, length, take, drop};
 ghost use Rattle.cells.specs.Cells.{between, is_blank, behind_blanks, before_blanks, plain, in_quotes, begins, ends, out_of_place, cells, text_of};
 ghost use Rattle.cells.specs.Cells as page;

@@ -1,4 +1,6 @@
 // A message enciphered or deciphered from file to file: read, worked and written piece by piece.
+#![tactic(auto)]
+
 use cipher::Schedule;
 use recipe_words::{arguments, files, outcome, progress};
 use stream::Stream;

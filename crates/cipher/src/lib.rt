@@ -1,4 +1,6 @@
 // Whichever cipher: the schedule record, set-up and one block (01, 'The two records' and 'Refusal numbers'; 02, request 7).
+#![tactic(auto)]
+
 ghost use Rattle.std.specs.Prelude.{◌≡◌, length};
 ghost use Rattle.cipher.specs.Schedule.{schedule_of, bad, zero_schedule, in_direction};
 ghost use Rattle.cipher.specs.Calls.{set_up_refusal, set_up_as, block_refusal};

@@ -1,4 +1,6 @@
 // The calls of a script on a schedule, and a schedule as a script has it and as an answer does.
+#![tactic(auto)]
+
 use cipher::Schedule;
 use script::{reading, writing};
 

@@ -1,4 +1,6 @@
 // Ciphers and directions by number (01, 'What is built'; 02, request 2): their names in code, what is legal, and the round keys of a key.
+#![tactic(auto)]
+
 pub mod blank;
 
 ghost use Rattle.std.specs.Prelude.{◌≡◌, true, [], ◌∷◌, length, drop};

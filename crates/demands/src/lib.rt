@@ -1,1 +1,2 @@
 // The three demands: what is true of the calls together. No code stands here.
+#![tactic(auto)]

@@ -1,4 +1,6 @@
 // E2 (001, with 01's repairs): one block both ways. A caller that works many blocks copies the table of s once, and lends it to each of them.
+#![tactic(auto)]
+
 ghost use Rattle.std.specs.Prelude.{◌≡◌};
 ghost use Rattle.e2_table.specs.Substitution.{s_table};
 ghost use Rattle.e2.specs.Block.{encipher, decipher};

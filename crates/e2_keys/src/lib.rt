@@ -1,4 +1,6 @@
 // E2's round keys (001, 'Вычисление раундовых подключей', with 01's repairs): K with what a short key lacks, G, q0 .. q31 and k1 .. k16.
+#![tactic(auto)]
+
 ghost use Rattle.std.specs.Prelude.{◌≡◌, ◌+◌, ◌≤◌, length, get_or, [], ◌∷◌};
 ghost use Rattle.laws.specs.Bytes.{bytes_of};
 ghost use Rattle.laws.specs.Places.{tab, part, quarters};

@@ -1,4 +1,6 @@
 // What the programs that show edge cases need: words, numbers and bytes in hex, and the front of some bytes.
+#![tactic(auto)]
+
 use libc::STDOUT_FILENO;
 
 pub fn say(words: &[u8]) {

@@ -1,4 +1,6 @@
 // 01's edge cases for every cipher, and 02's blank keys (request 7), run and shown: a line for each call, with its answer and the bytes of its output afterwards.
+#![tactic(auto)]
+
 use cipher::Schedule;
 use edge_words::{line, number, say};
 use stream::Stream;

@@ -1,4 +1,6 @@
 // What C calls: one block, on numbers and byte slices (01, 'What is built'; 02, request 7). No schedule record is made, tested or copied for it.
+#![tactic(auto)]
+
 ghost use Rattle.std.specs.Prelude.{◌≡◌};
 ghost use Rattle.entry.specs.Entry.{entry_refusal, WorksForC, TellsVersion};
 

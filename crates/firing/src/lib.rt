@@ -1,4 +1,6 @@
 // How long a recipe takes (docs/BENCH.md).
+#![tactic(auto)]
+
 use card_fields::{CLIMB, DROP, Fields, HOLD};
 
 // Why the time to a target can't be said, or that it can.

@@ -1,2 +1,4 @@
 // Hierocrypt-3 (002): one block both ways.
+#![tactic(auto)]
+
 pub mod block;

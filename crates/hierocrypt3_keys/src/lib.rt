@@ -1,4 +1,6 @@
 // Hierocrypt-3's round keys: 002, section 2.3, in its order and names. Nothing here needs to be fast.
+#![tactic(auto)]
+
 ghost use Rattle.std.specs.Prelude.{◌≡◌, ◌+◌, ◌/◌, ◌≤◌, ◌<◌, length, get_or};
 ghost use Rattle.laws.specs.Places.{tab};
 ghost use Rattle.hierocrypt3_tables.specs.code.Tables.{s_table};

@@ -1,14 +1,14 @@
--- What `spelled` makes of an answer of `hex::read`.
+-- What `spelled` makes of an answer of `hex_digits::read`.
 use mathlib.Core.Path.{◌≡◌, sym, ap, ◌∙◌}
 use mathlib.Core.List.{List}
 use Prim.Native.Nat.{ℕ, ◌≤◌, ◌<◌}
 use native.Mathlib.Omega.{arith}
 use lib.ListN.{length}
 use Rattle.io.proofs.Counting.{prefix_len_of_le}
-use Rattle.hex.specs.Read.{reading, Read}
-use Rattle.hex.specs.declared.Reading.{Reading}
-use Rattle.hex.specs.declared.Reading.TheVariants.{Bytes, BadCharacter, OddDigits, NoRoom}
-use Rattle.hex.proofs.Answers.{known}
+use Rattle.hex_digits.specs.Read.{reading, Read}
+use Rattle.hex_digits.specs.declared.Reading.{Reading}
+use Rattle.hex_digits.specs.declared.Reading.TheVariants.{Bytes, BadCharacter, OddDigits, NoRoom}
+use Rattle.hex_digits.proofs.Answers.{known}
 use Rattle.key_files.specs.Spelled.{laid, Spelled}
 
 module _ (text before after : List ℕ) (long : length after ≡ length before) where

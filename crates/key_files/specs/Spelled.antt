@@ -1,9 +1,9 @@
 -- What the text of a key's or a first block's file is taken for: the bytes that it spells, and nothing where it spells none.
 use Rattle.std.specs.Prelude.{◌≡◌, true, false, List, ℕ, length}
 use Rattle.io.specs.Counts.{IsPrefixLen}
-use Rattle.hex.specs.Read.{reading, written}
-use Rattle.hex.specs.declared.Reading.{Reading}
-use Rattle.hex.specs.declared.Reading.TheVariants.{Bytes, BadCharacter, OddDigits, NoRoom}
+use Rattle.hex_digits.specs.Read.{reading, written}
+use Rattle.hex_digits.specs.declared.Reading.{Reading}
+use Rattle.hex_digits.specs.declared.Reading.TheVariants.{Bytes, BadCharacter, OddDigits, NoRoom}
 use Rattle.recipe_words.specs.declared.files.Laid.{Laid}
 
 abbrev pub nothing : Laid

@@ -3,7 +3,7 @@ ghost use Rattle.io.specs.Counts.{IsPrefixLen};
 ghost use Rattle.key_files.specs.Spelled.{Spelled};
 
 use crate::{line, spot};
-use hex::Reading;
+use hex_digits::Reading;
 use recipe_words::files::{Laid, NOTHING};
 use recipe_words::{files, outcome};
 
@@ -30,7 +30,7 @@ fn too_long(about: &[u8]) {
 fn spelled(about: &[u8], text: &[u8], bytes: &mut [u8]) -> Laid
     ensures { Spelled text.now bytes.old result bytes.new }
 {
-    let r = hex::read(text, bytes);
+    let r = hex_digits::read(text, bytes);
     match r {
         Reading::Bytes(n) => Laid { ok: true, len: n },
         Reading::BadCharacter(place) => {

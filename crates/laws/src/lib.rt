@@ -1,1 +1,2 @@
 // The facts that the ciphers and the chain share: definitions in specs/, laws in proofs/. No code.
+#![tactic(auto)]

@@ -1,4 +1,6 @@
 // Noekeon, direct key (003; 02, request 2): one block both ways under one of its two rules, on four words of 32 bits by value, and the round keys.
+#![tactic(auto)]
+
 ghost use Rattle.std.specs.Prelude.{◌≡◌, ◌≤◌, ◌<◌, length, get_or};
 ghost use Rattle.laws.specs.Places.{tab};
 ghost use Rattle.noekeon_steps.specs.Rule.{Rule, rule};

@@ -1,4 +1,6 @@
 // Noekeon's steps (003) on four words of 32 bits by value: θ, γ, π1 and π2. θ is that of one of the two rules: the published one, or the earlier one.
+#![tactic(auto)]
+
 ghost use Rattle.std.specs.Prelude.{◌≡◌};
 ghost use Rattle.noekeon_steps.specs.Rule.{rule};
 ghost use Rattle.noekeon_steps.specs.Steps.{S, θ, zero_key, first_xored, γ, π1, π2};

@@ -1,1 +1,2 @@
 // Noekeon deciphered undoes Noekeon enciphered, about the definitions. No code.
+#![tactic(auto)]

@@ -1,4 +1,6 @@
 // A piece behind so many bytes: the limit, the room that its blocks need, and the held bytes with the piece behind them. No state record is known here.
+#![tactic(auto)]
+
 pub mod held;
 
 ghost use Rattle.std.specs.Prelude.{◌≡◌, ◌+◌, ◌*◌, ltb};

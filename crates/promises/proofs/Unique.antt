@@ -4,8 +4,8 @@ use mathlib.Core.Bool.{Bool}
 use mathlib.Core.List.{List}
 use Prim.Native.Nat.{ℕ}
 use denote.Ref.{Bor}
-use Rattle.hex.specs.Read.{Read}
-use Rattle.hex.specs.declared.Reading.{Reading}
+use Rattle.hex_digits.specs.Read.{Read}
+use Rattle.hex_digits.specs.declared.Reading.{Reading}
 use Rattle.card.specs.Promises.{Judges, Finds, Puts}
 use Rattle.card_compare.specs.Promises.{Compares}
 use Rattle.cipher.specs.Promises.{SetsUp, WorksBlock}

@@ -1,5 +1,7 @@
 // For each public call a thin caller that gets exactly its promise, so that a contract which promises less is refused here. docs/PROMISES.md is the index.
-ghost use Rattle.hex.specs.Read.{Read};
+#![tactic(auto)]
+
+ghost use Rattle.hex_digits.specs.Read.{Read};
 ghost use Rattle.card.specs.Promises.{Judges, Finds, Puts};
 ghost use Rattle.card_compare.specs.Promises.{Compares};
 ghost use Rattle.cipher.specs.Promises.{SetsUp, EnciphersBlock, DeciphersBlock};
@@ -13,7 +15,7 @@ ghost use Rattle.seal_speed.specs.Works.{SealsMessage, SealsBytes};
 
 use card_compare::Compared;
 use cipher::{Schedule, SetUp};
-use hex::Reading;
+use hex_digits::Reading;
 use seal::Seal;
 use stream::{Fed, Finished, Started, Stream};
 
@@ -104,7 +106,7 @@ pub fn version_for_c() -> u64
 pub fn read_hex(text: &[u8], out: &mut [u8]) -> Reading
     ensures { Read text.now out.old result out.new }
 {
-    hex::read(text, out)
+    hex_digits::read(text, out)
 }
 
 pub fn good_card(card: &[u8]) -> bool

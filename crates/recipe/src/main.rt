@@ -1,6 +1,8 @@
 // Enciphers or deciphers a message from file to file. Its arguments: encipher or decipher, the cipher, the key file,
 // `all` of which is the key or of which line `1` of two is, the first block's file, the message's file, the file to
 // write. Standard output carries the outcome, and no more.
+#![tactic(auto)]
+
 use key_files::{hex_file, line, schedule};
 use recipe_words::{arguments, outcome};
 

@@ -1,5 +1,7 @@
 // Two cards compared by the proved call, and its list in words (docs/BENCH.md): compare A B OUT. Standard output carries the
 // outcome.
+#![tactic(auto)]
+
 use card_files::{input, output};
 use card_show::changes;
 use recipe_words::{files, outcome};

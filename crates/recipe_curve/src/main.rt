@@ -1,4 +1,6 @@
 // The firing of a recipe drawn (docs/BENCH.md): curve CARD RECIPE OUT. Standard output carries the outcome.
+#![tactic(auto)]
+
 use card_files::{input, output};
 use card_segments::first_of;
 use recipe_words::outcome;

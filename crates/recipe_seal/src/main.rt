@@ -6,6 +6,8 @@
 //     mark IN OUT      the seal of IN, 16 bytes, to OUT, under the second of two keys
 //     receive IN       whether IN is a sent card, and if not, why
 // Standard output carries the outcome, and no more.
+#![tactic(auto)]
+
 mod received;
 
 use key_files::keys;

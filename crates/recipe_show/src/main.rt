@@ -3,6 +3,8 @@
 //     table CARD OUT
 //     find CARD RECIPE SEGMENT OUT
 // Standard output carries the outcome.
+#![tactic(auto)]
+
 mod find;
 mod show;
 mod table;

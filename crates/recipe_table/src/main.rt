@@ -2,6 +2,8 @@
 //     from TABLE OUT
 //     put CARD RECIPE SEGMENT KIND TARGET RATE HOLD OUT
 // Standard output carries the outcome in its last line; before it stand the lines or fields that break a rule.
+#![tactic(auto)]
+
 mod put;
 mod table;
 

@@ -1,4 +1,6 @@
 // The refusals of 01's table, and of later requests, by name: the one place where a number stands in code. The order of each call's is a definition in specs/, and the code that decides by it is in the crates `.._orders`.
+#![tactic(auto)]
+
 pub const DONE: u8 = 0;
 
 pub const UNKNOWN_CIPHER: u8 = 1;

@@ -1,4 +1,6 @@
 // Makes the calls that a script on standard input tells it to, and writes everything that comes back to standard output.
+#![tactic(auto)]
+
 mod calls;
 
 use cipher::Schedule;

@@ -1,4 +1,6 @@
 // Runs of bytes: a tail that is one byte over and over, a tail of zeros, a block read from a slice, a block put into one.
+#![tactic(auto)]
+
 ghost use Rattle.std.specs.Prelude.{◌≡◌, ◌++◌, ◌+◌, ◌≤◌, length, take, drop};
 ghost use Rattle.runs.specs.All.{all};
 ghost use Rattle.runs.specs.Zeros.{zeros};

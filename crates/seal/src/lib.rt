@@ -1,4 +1,6 @@
 // The seal of a message, CMAC, in pieces: start, feed, write and check (02, request 3).
+#![tactic(auto)]
+
 use cipher::Schedule;
 
 mod blocks;

@@ -1,4 +1,6 @@
 // The calls of a script on a seal, and a seal as a script has it and as an answer does.
+#![tactic(auto)]
+
 use cipher::Schedule;
 use script::{reading, writing};
 use seal::Seal;

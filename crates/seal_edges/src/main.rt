@@ -1,4 +1,6 @@
 // The edge cases of 02, request 3, for every cipher, run and shown: each call with its answer, and the bytes of its output afterwards.
+#![tactic(auto)]
+
 use cipher::Schedule;
 use edge_words::{front, line, number, say};
 use seal::{Fed, Seal};

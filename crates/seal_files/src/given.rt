@@ -3,7 +3,7 @@ ghost use Rattle.io.specs.Counts.{IsPrefixLen};
 
 use crate::message;
 use cipher::Schedule;
-use hex::Reading;
+use hex_digits::Reading;
 use recipe_words::files::{Laid, NOTHING};
 use recipe_words::{files, outcome};
 use seal::Seal;
@@ -24,7 +24,7 @@ fn bad_character(word: &[u8], place: usize) {
 fn spelled(word: &[u8], bytes: &mut [u8]) -> Laid
     ensures { IsPrefixLen result.len bytes.new }
 {
-    let r = hex::read(word, bytes);
+    let r = hex_digits::read(word, bytes);
     match r {
         Reading::Bytes(n) => Laid { ok: true, len: n },
         Reading::BadCharacter(place) => {

@@ -1,4 +1,6 @@
 // What host/bench measures of seals, and host/check holds to another's: a message sealed, in one piece and byte by byte.
+#![tactic(auto)]
+
 ghost use Rattle.std.specs.Prelude.{◌≡◌};
 ghost use Rattle.seal_speed.specs.Works.{begun, SealsMessage, SealsBytes};
 

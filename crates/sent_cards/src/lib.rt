@@ -1,4 +1,6 @@
 // What a received file is (docs/SENT.md): a sent card whose seal is right, or why it is not, as far as seals can tell.
+#![tactic(auto)]
+
 ghost use Rattle.std.specs.Prelude.{◌≡◌, ◌+◌, ◌*◌, ◌≤◌, length};
 ghost use Rattle.sent_cards.specs.Sent as sent;
 ghost use Rattle.sent_cards.specs.Steps.{Steps};

@@ -1,4 +1,6 @@
 // What host/bench measures: blocks each by themselves, and a message through a stream in one piece and byte by byte.
+#![tactic(auto)]
+
 ghost use Rattle.std.specs.Prelude.{◌≡◌};
 ghost use Rattle.speed.specs.Works.{begun, WorksBlocks, WorksMessage, WorksBytes};
 

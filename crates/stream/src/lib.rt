@@ -1,4 +1,6 @@
 // The CBC stream: start, feed and finish (01, 'The two records' and 'Refusal numbers').
+#![tactic(auto)]
+
 use cipher::Schedule;
 
 mod blocks;

@@ -1,4 +1,6 @@
 // The record of a stream that is laid down, field by field (02, request 5). Neither a stream nor a cipher is known here.
+#![tactic(auto)]
+
 pub mod number;
 
 ghost use Rattle.std.specs.Prelude.{◌≡◌, [], ◌∷◌, ◌++◌, ◌≤◌, length, drop};

@@ -1,4 +1,6 @@
 // A stream laid down as a record of bytes, and taken up again with its schedule (02, request 5).
+#![tactic(auto)]
+
 ghost use Rattle.std.specs.Prelude.{◌≡◌};
 ghost use Rattle.stream_record.specs.Record.{fields_of, stream_from, bad_fields, differs};
 ghost use Rattle.stream_record.specs.Calls.{lay_down_refusal, take_up_refusal};

@@ -1,5 +1,7 @@
 // A power cut at every byte: messages of 0 to 100 bytes, of every cipher, key length and direction, are laid down and taken up after each byte, from nothing
 // but the 40 bytes and the key, and must end as the uncut run does. A line for each tells how many runs differ.
+#![tactic(auto)]
+
 use edge_words::{front, hex, line, number, say};
 use stream::Stream;
 

@@ -1,4 +1,6 @@
 // The edge cases of 02, request 5, for every cipher, run and shown: each call with its answer, and what it returns and leaves.
+#![tactic(auto)]
+
 use cipher::Schedule;
 use edge_words::{front, hex, line, number, say};
 use stream::Stream;

@@ -1,5 +1,7 @@
 // A text put together at the front of a space. Each function puts something at a place and hands back the place behind
 // it; what has no room is left out, and the place is then the end of the space.
+#![tactic(auto)]
+
 ghost use Rattle.std.specs.Prelude.{◌≡◌, take, get_or};
 ghost use Rattle.wording.specs.Laid.{Puts};
 ghost use Rattle.wording.specs.Numbers.{decimal, in_tenths};

@@ -1,4 +1,4 @@
-use Rattle.hex.specs.declared.Reading.TheVariants.{Bytes, BadCharacter, OddDigits, NoRoom}
+use Rattle.hex_digits.specs.declared.Reading.TheVariants.{Bytes, BadCharacter, OddDigits, NoRoom}
 use Rattle.key_files.proofs.Told.{told, place_within}
 use borrow.Author.Rules.{rules}
 use Rattle.key_files.proofs.hex_file.spelled.Statement.{statement}

@@ -1,4 +1,4 @@
-use Rattle.hex.specs.declared.Reading.TheVariants.{Bytes}
+use Rattle.hex_digits.specs.declared.Reading.TheVariants.{Bytes}
 use Rattle.key_files.proofs.Told.{told}
 use borrow.Author.Rules.{rules}
 use Rattle.seal_files.proofs.given.spelled.Statement.{statement}

@@ -5,9 +5,9 @@ use Prim.Native.Nat.{ℕ, ◌/◌, ◌%◌, ◌≤◌, ◌<◌}
 use lib.ListN.{length, drop}
 use borrow.Author.Tests.{lt-ltb, le-ltb, eq-eqb, ne_eqb}
 use Rattle.hex_text.specs.Hex.{first_bad, digits, joined}
-use Rattle.hex.specs.Read.{reading, written, Read}
-use Rattle.hex.specs.declared.Reading.{Reading}
-use Rattle.hex.specs.declared.Reading.TheVariants.{Bytes, BadCharacter, OddDigits, NoRoom}
+use Rattle.hex_digits.specs.Read.{reading, written, Read}
+use Rattle.hex_digits.specs.declared.Reading.{Reading}
+use Rattle.hex_digits.specs.declared.Reading.TheVariants.{Bytes, BadCharacter, OddDigits, NoRoom}
 
 module _ {text before : List ℕ} where
   answered : (r : Reading) → reading text (length before) ≡ r → Read text before r (written r text before)

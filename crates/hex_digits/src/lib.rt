@@ -1,5 +1,7 @@
 // A text of hex digits as bytes: two digits to a byte, the first the higher, white space ignored.
-ghost use Rattle.hex.specs.Read.{Read};
+#![tactic(auto)]
+
+ghost use Rattle.hex_digits.specs.Read.{Read};
 
 use hex_text::text;
 

@@ -8,9 +8,9 @@ use lib.ListN.{length}
 use borrow.Author.Tests.{eqb-true, ltb-true, ltb-false}
 use Rattle.laws.specs.Choice.{choose}
 use Rattle.hex_text.specs.Hex.{first_bad, digits}
-use Rattle.hex.specs.Read.{counted, reading}
-use Rattle.hex.specs.declared.Reading.{Reading}
-use Rattle.hex.specs.declared.Reading.TheVariants.{Bytes, BadCharacter, OddDigits, NoRoom}
+use Rattle.hex_digits.specs.Read.{counted, reading}
+use Rattle.hex_digits.specs.declared.Reading.{Reading}
+use Rattle.hex_digits.specs.declared.Reading.TheVariants.{Bytes, BadCharacter, OddDigits, NoRoom}
 
 abbrev pub Known : List ℕ → ℕ → Reading → Type 0
 Known text room (Bytes n) = n ≤ room

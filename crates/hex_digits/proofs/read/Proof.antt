@@ -1,9 +1,9 @@
 use native.Mathlib.Omega.{arith}
 use Rattle.hex_text.proofs.Texts.{bad_within}
-use Rattle.hex.proofs.Outcomes.{bad_character, odd_digits, no_room_lem, bytes}
+use Rattle.hex_digits.proofs.Outcomes.{bad_character, odd_digits, no_room_lem, bytes}
 use borrow.Author.Rules.{rules}
-use Rattle.hex.proofs.read.Statement.{statement}
-use Rattle.hex.proofs.read.Tie as tie
+use Rattle.hex_digits.proofs.read.Statement.{statement}
+use Rattle.hex_digits.proofs.read.Tie as tie
 
 first-bad-requires : tie.Need-first-bad-requires
 first-bad-requires c κs = search rules

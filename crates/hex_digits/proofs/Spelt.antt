@@ -9,10 +9,10 @@ use lib.ListN.{length, get_or, drop}
 use Rattle.laws.specs.Bytes.{Byte, Bytes}
 use Rattle.laws.proofs.Places.{each_head, each_tail}
 use Rattle.hex_text.specs.Hex.{smalls, white, value, bad, digits, joined, Good}
-use Rattle.hex.specs.Read.{Read}
-use Rattle.hex.specs.declared.Reading.TheVariants as Reading
+use Rattle.hex_digits.specs.Read.{Read}
+use Rattle.hex_digits.specs.declared.Reading.TheVariants as Reading
 use Rattle.hex_text.proofs.Ranges.{passed, is_false}
-use Rattle.hex.proofs.Outcomes.{bytes}
+use Rattle.hex_digits.proofs.Outcomes.{bytes}
 
 abbrev digit : ℕ → ℕ
 digit d = get_or smalls d 0

@@ -2,8 +2,8 @@
 use Rattle.std.specs.Prelude.{◌≡◌, List, ◌++◌, ℕ, ◌/◌, ◌%◌, eqb, ltb, length, drop}
 use Rattle.laws.specs.Choice.{choose}
 use Rattle.hex_text.specs.Hex.{first_bad, digits, joined}
-use Rattle.hex.specs.declared.Reading.{Reading}
-use Rattle.hex.specs.declared.Reading.TheVariants.{Bytes, BadCharacter, OddDigits, NoRoom}
+use Rattle.hex_digits.specs.declared.Reading.{Reading}
+use Rattle.hex_digits.specs.declared.Reading.TheVariants.{Bytes, BadCharacter, OddDigits, NoRoom}
 
 -- a text of n digits and no bad character, with room for so many bytes
 abbrev pub counted : ℕ → ℕ → Reading
