@@ -1,7 +1,5 @@
-use mathlib.Core.List.{List}
-use Prim.Native.Nat.{ℕ, ◌-◌}
+use Prim.Native.Nat.{◌-◌}
 use lib.ListN.{length}
-use Rattle.cells.specs.Cells.{cell}
 use Rattle.cells.proofs.AllCells.{Counting}
 use Rattle.cells.proofs.count.Given as goal
 

@@ -1,5 +1,4 @@
 use mathlib.Core.Path.{sym, ◌∙◌}
-use Prim.Native.Nat.{◌-◌}
 use Rattle.cells.proofs.OneCell.{cell-quoted, cell-bare}
 use Rattle.cells.proofs.cut.Goals as goal
 

@@ -4,7 +4,7 @@ use Prim.Native.Nat.{ℕ, ◌+◌, ◌≤◌, ◌<◌}
 use native.Mathlib.Omega.{arith}
 use lib.ListN.{length, drop, length-drop}
 use Rattle.cells.specs.Cells.{in_quotes}
-use Rattle.cells.proofs.Texts.{quotes_within, begins_within}
+use Rattle.cells.proofs.Texts.{quotes_within}
 use Rattle.cells.proofs.OneCell.{quoted_open, quoted_closed, blanks_behind}
 use Rattle.cells.proofs.quoted.Goals as goal
 

@@ -1,5 +1,4 @@
-use mathlib.Core.List.{List}
-use Prim.Native.Nat.{ℕ, ◌-◌}
+use Prim.Native.Nat.{◌-◌}
 use Rattle.cells.proofs.AllCells.{Reaching}
 use Rattle.cells.proofs.text.Given as goal
 
