@@ -1,4 +1,3 @@
-use Prim.Native.Nat.{◌-◌}
 use native.Mathlib.Omega.{arith}
 use Rattle.card_keys.proofs.Keys.{collected_none, collected_one, collected_end}
 use Rattle.card_keys.proofs.unsorted.Goals as goal
@@ -11,8 +10,8 @@ loop-i-preserved c = let w = c.loop-i.invariant in
     let l = c.at.ensures.holds in
     let e = c.key-k.ensures in
     elim c.if-k-ge256.branch [
-      then-k-ge256 v ↦ collected_one w few h l e v.if-k-ge256.true v.filled-is
-    | else-k-ge256 v ↦ collected_none w few h l e v.if-k-ge256.false v.filled-is
+      | then-k-ge256 v ↦ collected_one w few h l e v.if-k-ge256.true v.filled-is
+      | else-k-ge256 v ↦ collected_none w few h l e v.if-k-ge256.false v.filled-is
     ]
 
 pub returns : goal.returns
