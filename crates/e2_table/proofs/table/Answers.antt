@@ -3,12 +3,8 @@ use mathlib.Core.Path.{refl}
 use Rattle.laws.specs.Field.{product}
 use Rattle.laws.proofs.Power.{power_bits}
 use Rattle.e2_table.proofs.TableRule.{right, table_by_rule}
-use Rattle.e2_table.proofs.table.Statement.{statement}
-use Rattle.e2_table.proofs.table.Tie as tie
+use Rattle.e2_table.proofs.table.Goals as goal
 
-returns : tie.Need-returns
+pub returns : goal.returns
 unfolding right power_bits product
 returns c = table_by_rule _ refl tt
-
-pub table-spec : {M : Type 1} → statement M
-table-spec = tie.close (tie.spec returns)
