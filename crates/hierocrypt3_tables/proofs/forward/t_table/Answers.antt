@@ -5,12 +5,8 @@ use Rattle.laws.proofs.Table.{tab_computed}
 use Rattle.hierocrypt3_tables.specs.Operations.{rows_l}
 use Rattle.hierocrypt3_tables.specs.code.Tables.{first_column, t, t_table}
 use Rattle.hierocrypt3_tables.proofs.Sbox.{entries, s_entry}
-use Rattle.hierocrypt3_tables.proofs.forward.t_table.Statement.{statement}
-use Rattle.hierocrypt3_tables.proofs.forward.t_table.Tie as tie
+use Rattle.hierocrypt3_tables.proofs.forward.t_table.Goals as goal
 
-returns : tie.Need-returns
+pub returns : goal.returns
 unfolding t_table t entries product
 returns c = tab_computed 256 t (λ x. first_column rows_l (get_or entries x 0)) (λ k h. ap (first_column rows_l) (s_entry k h)) _ refl tt
-
-pub t-table-spec : {M : Type 1} → statement M
-t-table-spec = tie.close (tie.spec returns)
