@@ -9,10 +9,10 @@ use Rattle.e2_keys.proofs.round_keys_with.Goals as goal
 
 pub loop-i-init : goal.loop-i-init
 loop-i-init c = let l = c.g_l-l.ensures ∙ ap (L (four_halves c.g_y-y.result)) c.constant.ensures in
-    (search rules, generating_start _ c.full-key.result _ _ c.full-key.ensures c.g_y-y.ensures l)
+    (search rules, generating_start _ c.full_key.result _ _ c.full_key.ensures c.g_y-y.ensures l)
 
 pub g_l-next_l-requires : goal.g_l-next_l-requires
-g_l-next_l-requires c = c.requires.0
+g_l-next_l-requires c = c.requires.table_value
 
 pub loop-i-preserved : goal.loop-i-preserved
 loop-i-preserved c = (
