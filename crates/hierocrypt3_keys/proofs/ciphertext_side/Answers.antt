@@ -13,5 +13,5 @@ returns c = let args = c.args in
     let w2 = c.mb3-w2.ensures in
     let k2 = c.xor8-k2.ensures ∙ (λ i. xor_l 8 (w1 i) (v i)) in
     let k3 = c.xor8-k3.ensures ∙ (λ i. xor_l 8 (w2 i) (v i)) in
-    let k4 = c.xor8-k4.ensures ∙ ap (xor_l 8 args.z1) w2 in
+    let k4 = c.xor8-k4.ensures ∙ ap (xor_l 8 args.before.z1) w2 in
     λ i. c.xor8-k1.ensures i ++ k2 i ++ k3 i ++ k4 i

@@ -9,15 +9,15 @@ pub returns-then-t-t_turn : goal.returns-then-t-t_turn
 unfolding key_of
 returns-then-t-t_turn c = let args = c.args in
     let g = constant args.length (args.t + 1) in
-    c.plaintext_side_lem.ensures
-    ∙ plaintext_side_lem args.t (t_turn args.length) (plaintext_side args args.z) (ciphertext_side g args args.z)
+    c.plaintext_side.ensures
+    ∙ plaintext_side_lem args.t (t_turn args.length) (plaintext_side args.before args.z) (ciphertext_side g args.before args.z)
     (subst (λ (m : ℕ). args.t < m) c.t_turn.ensures c.if-t-t_turn.true)
 
 pub returns : goal.returns
 unfolding key_of
 returns c = let args = c.args in
     let g = constant args.length (args.t + 1) in
-    c.ciphertext_side_lem.ensures
-    ∙ (λ i. ciphertext_side (c.constant.ensures i) args args.z)
-    ∙ ciphertext_side_lem args.t (t_turn args.length) (plaintext_side args args.z) (ciphertext_side g args args.z)
+    c.ciphertext_side.ensures
+    ∙ (λ i. ciphertext_side (c.constant.ensures i) args.before args.z)
+    ∙ ciphertext_side_lem args.t (t_turn args.length) (plaintext_side args.before args.z) (ciphertext_side g args.before args.z)
     (subst (λ (m : ℕ). m ≤ args.t) c.t_turn.ensures c.if-t-t_turn.false)
