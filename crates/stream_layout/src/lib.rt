@@ -7,7 +7,7 @@ ghost use Rattle.std.specs.Prelude.{◌≡◌, [], ◌∷◌, ◌++◌, ◌≤�
 ghost use Rattle.laws.specs.Places.{part};
 ghost use Rattle.stream_layout.specs.Layout.{chain, record_length, numbers, laid, spelt};
 
-#[derive(Drop)]
+#[derive(Clone, Copy)]
 pub struct Fields {
     pub cipher: u8,
     pub key_length: u8,
