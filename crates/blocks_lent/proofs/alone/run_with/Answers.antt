@@ -36,4 +36,4 @@ shape_of-out c = let p = c.requires.3 in
 pub returns : goal.returns
 returns c = let i = c.loop-j.invariant.0 in
     let e : c.loop-j.j ≡ c.args.n = omega arith in
-    rw e at c.loop-j.invariant.1.now-is
+    rw e at c.loop-j.invariant.1.now_is

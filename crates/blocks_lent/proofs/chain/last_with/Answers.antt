@@ -20,7 +20,7 @@ loop-i-preserved c = let a = c.args in
     let t = c.loop-i-test.true in (
       omega arith,
       chain_next (E a.way a.keys.now) a.chain (a.first ++ a.rest.now) c.loop-i.i _ _ _ _
-          c.loop-i.invariant.1 c.Block-of.ensures c.xor16.ensures c.enciphered-y.ensures,
+          c.loop-i.invariant.1 c.block_of-x.ensures c.xor16.ensures c.enciphered-y.ensures,
     )
 
 pub returns : goal.returns

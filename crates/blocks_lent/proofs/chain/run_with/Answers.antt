@@ -27,7 +27,7 @@ pub loop-j-preserved : goal.loop-j-preserved
 loop-j-preserved c = let out_16 : length c.chained-t.result.out ≡ 16 = search rules in
     let t = c.loop-j-test.true in
     let ly = out_16 in
-    let h = rw c.Block-of.ensures at c.chained-t.ensures in
+    let h = rw c.block_of-x.ensures at c.chained-t.ensures in
     (omega arith, running_next _ _ _ _ _ _ c.loop-j.invariant.1 _ _ _ h.0 h.1 ly c.store.ensures)
 
 pub shape_of-out : goal.shape_of-out
