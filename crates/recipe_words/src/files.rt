@@ -155,7 +155,7 @@ pub fn put(rt: &HostRuntime, to: &mut File, bytes: &[u8], n: usize) -> bool {
 }
 
 // The end of what is written, which is on its device before it is called done.
-pub fn end(rt: &HostRuntime, to: File, count: u64) {
+pub fn end(rt: &HostRuntime, to: &File, count: u64) {
     match to.sync_all() {
         Ok(()) => outcome::end_number(rt, b"done", count),
         Err(error) => not_written(rt, &error),
