@@ -7,7 +7,7 @@ use crate::{Way, deciphered, enciphered};
 use cipher_numbers::ENCIPHER;
 
 // A block through the chain: what goes out, and the next chain block.
-#[derive(Drop)]
+#[derive(Clone, Copy)]
 struct Step {
     out: [u8; 16],
     chain: [u8; 16],

@@ -10,7 +10,7 @@ ghost use Rattle.blocks_lent.specs.Ways.{E, D, Lent, LegalWay};
 use cipher_numbers::{E2, HIEROCRYPT3, NOEKEON};
 
 // What is done to a block: by which cipher, with a key of which length, in which direction.
-#[derive(Drop)]
+#[derive(Clone, Copy)]
 pub struct Way {
     pub cipher: u64,
     pub length: usize,

@@ -10,14 +10,14 @@ use blocks_lent::Way;
 use cipher_blocks::alone;
 use cipher_numbers::blank;
 
-#[derive(Drop)]
+#[derive(Clone, Copy)]
 pub struct Schedule {
     pub round_keys: [u8; 288],
     pub cipher: u8,
     pub key_length: u8,
 }
 
-#[derive(Drop)]
+#[derive(Clone, Copy)]
 pub struct SetUp {
     pub answer: u8,
     pub schedule: Schedule,

@@ -17,7 +17,7 @@ use e2_steps::{half, quad};
 use words::word::{byte0, byte1, byte2, byte3, word};
 
 // L and R.
-#[derive(Drop)]
+#[derive(Clone, Copy)]
 pub struct Halves {
     pub l: Pair,
     pub r: Pair,

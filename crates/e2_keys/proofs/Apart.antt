@@ -19,6 +19,7 @@ untouched r n (x ∷ xs) m h =
     ∙ get_or-set_other r n m x 0 (λ e. h 0 (omega arith) (omega arith))
 
 touched : (r : List ℕ) (n : ℕ) (xs : List ℕ) (p : ℕ) → p < length xs → n + 32 * p < length r → get_or (apart r n xs) (n + 32 * p) 0 ≡ get_or xs p 0
+touched r n [] p l h = elim l [ ]
 touched r n (x ∷ xs) zero l h =
     ap (λ (m : ℕ). get_or (apart (set r n x) (n + 32) xs) m 0) (omega arith)
     ∙ untouched (set r n x) (n + 32) xs n (λ p k e. omega arith)

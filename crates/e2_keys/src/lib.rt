@@ -17,7 +17,7 @@ use e2_table::table;
 use words::word::{byte0, byte1, byte2, byte3};
 
 // Four sub-blocks of 8 bytes: K, or the X, the L and the Y of G.
-#[derive(Drop)]
+#[derive(Clone, Copy)]
 pub struct Four {
     pub x0: Pair,
     pub x1: Pair,

@@ -11,7 +11,7 @@ ghost use Rattle.e2_steps.specs.code.Layout.{pair_bytes};
 use e2_table::s_byte;
 use words::word::{byte0, byte1, byte2, byte3, rotated, word, word_at};
 
-#[derive(Drop)]
+#[derive(Clone, Copy)]
 pub struct Pair {
     pub a: u32,
     pub b: u32,

@@ -9,7 +9,7 @@ ghost use Rattle.e2_steps.specs.code.Layout.{quad_bytes};
 use words::word::{put, word_at};
 
 // A block.
-#[derive(Drop)]
+#[derive(Clone, Copy)]
 pub struct Quad {
     pub a: u32,
     pub b: u32,

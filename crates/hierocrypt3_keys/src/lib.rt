@@ -18,7 +18,7 @@ use words::bytes::{eight, xor8};
 mod operations;
 
 // An intermediate key, Z1 to Z4 (002, section 2.3).
-#[derive(Drop)]
+#[derive(Clone, Copy)]
 pub struct Intermediate {
     pub z1: [u8; 8],
     pub z2: [u8; 8],
@@ -27,7 +27,7 @@ pub struct Intermediate {
 }
 
 // A round key, K1 to K4 (002, section 2.3).
-#[derive(Drop)]
+#[derive(Clone, Copy)]
 pub struct RoundKey {
     pub k1: [u8; 8],
     pub k2: [u8; 8],

@@ -7,7 +7,7 @@ ghost use Rattle.noekeon_steps.specs.Steps.{S, θ, zero_key, first_xored, γ, π
 
 use words::word::rotated;
 
-#[derive(Drop)]
+#[derive(Clone, Copy)]
 pub struct Quad {
     pub p0: u32,
     pub p1: u32,

@@ -1,7 +1,4 @@
-use Prim.Native.Nat.{◌-◌}
-use mathlib.Core.Bool.{false}
 use mathlib.Core.Path.{◌∙◌}
-use Rattle.runs.specs.All.{all}
 use Rattle.runs.proofs.All.{all_next, all_so_far}
 use Rattle.runs.proofs.all_from.Goals as goal
 

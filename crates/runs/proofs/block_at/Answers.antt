@@ -1,6 +1,5 @@
 use mathlib.Core.Path.{◌≡◌, refl, sym, ◌∙◌}
 use mathlib.Core.List.{append-nil}
-use Prim.Native.Nat.{◌-◌}
 use native.Mathlib.Omega.{arith}
 use lib.ListN.{take, drop, length-drop}
 use lib.Seq.{get_or-drop}
@@ -11,7 +10,8 @@ pub loop-i-init : goal.loop-i-init
 loop-i-init c = (omega arith, refl)
 
 pub loop-i-preserved : goal.loop-i-preserved
-loop-i-preserved c = let p = c.args.bytes.now in
+loop-i-preserved c =
+    let p = c.args.bytes.now in
     let d = length-drop c.args.at p in (
       omega arith,
       rw c.loop-i.invariant.1
@@ -19,5 +19,6 @@ loop-i-preserved c = let p = c.args.bytes.now in
     )
 
 pub returns : goal.returns
-returns c = let e : c.loop-i.i ≡ 16 = omega arith in
+returns c =
+    let e : c.loop-i.i ≡ 16 = omega arith in
     c.loop-i.invariant.1 ∙ rw e (append-nil (take 16 (drop c.args.at c.args.bytes.now)))

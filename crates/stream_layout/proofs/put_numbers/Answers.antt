@@ -5,7 +5,8 @@ use Rattle.stream_layout.proofs.Behind.{none, behind}
 use Rattle.stream_layout.proofs.put_numbers.Goals as goal
 
 pub returns : goal.returns
-returns c = let f = c.args.f in
+returns c =
+    let f = c.args.f in
     let one = behind (bytes_in 1 f.cipher) 1 refl (none c.args.out.now) c.put.ensures in
     let two = behind (bytes_in 1 f.key_length) 1 refl one c.put-2.ensures in
     let three = behind (bytes_in 1 f.direction) 1 refl two c.put-3.ensures in

@@ -5,7 +5,8 @@ use Rattle.stream_layout.proofs.read.Goals as goal
 
 pub returns : goal.returns
 unfolding spelt
-returns c = let r = c.args.«record».now in
+returns c =
+    let r = c.args.«record».now in
     let l = c.requires in
     rw (
       one_byte r 0 (omega arith),

@@ -7,7 +7,8 @@ use Rattle.stream_layout.proofs.write.Goals as goal
 
 pub returns : goal.returns
 unfolding laid
-returns c = let chain_16 : length c.args.f.chain ≡ 16 = search rules in
+returns c =
+    let chain_16 : length c.args.f.chain ≡ 16 = search rules in
     let held_16 : length c.args.f.held ≡ 16 = search rules in
     let f = c.args.f in
     let one : Begun c.args.out.now (numbers f) chain.begins c.put_numbers.new.out = record { long = refl; is = c.put_numbers.ensures } in

@@ -8,5 +8,6 @@ pub returns-then-n-eq0 : goal.returns-then-n-eq0
 returns-then-n-eq0 c = sym (ap (pushed c.args.count) c.if-n-eq0.true ∙ pushed_none c.args.count)
 
 pub returns : goal.returns
-returns c = let a = c.args in
+returns c =
+    let a = c.args in
     ap (λ (k : ℕ). (k + a.n - 1) / 16) c.held_number.ensures.0 ∙ sym (pushed_held a.count a.n)

@@ -10,14 +10,16 @@ use Rattle.cmac_steps.proofs.Masked.{mask_whole, mask_part}
 use Rattle.cmac_steps.proofs.last.masked.Goals as goal
 
 pub returns-then-n-eq16 : goal.returns-then-n-eq16
-returns-then-n-eq16 c = let long : length c.args.held ≡ 16 = search rules in
+returns-then-n-eq16 c =
+    let long : length c.args.held ≡ 16 = search rules in
     let a = c.args in
     c.xor16.ensures
     ∙ ap (λ (k : List ℕ). xor_l 16 k a.held) c.doubled-k1.ensures
     ∙ mask_whole (doubled a.l) (doubled (doubled a.l)) a.held a.n long c.if-n-eq16.true
 
 pub returns : goal.returns
-returns c = let long : length c.args.held ≡ 16 = search rules in
+returns c =
+    let long : length c.args.held ≡ 16 = search rules in
     let a = c.args in
     let p = c.requires in
     let part = c.if-n-eq16.false in

@@ -10,7 +10,8 @@ abbrev filled : (n : ℕ) → List ℕ → ℕ → List ℕ
 filled n l k = take k l ++ replicate (n - k) 0
 
 pub loop-j-init : goal.loop-j-init
-loop-j-init c = let a = c.args in
+loop-j-init c =
+    let a = c.args in
     let here : a.i ≡ a.i + (a.from - a.from) = omega arith in (
       omega arith,
       omega arith,
@@ -19,7 +20,8 @@ loop-j-init c = let a = c.args in
     )
 
 pub loop-j-preserved : goal.loop-j-preserved
-loop-j-preserved c = let a = c.args in
+loop-j-preserved c =
+    let a = c.args in
     let j = c.loop-j.j in
     let inv = c.loop-j.invariant in (
       omega arith,
@@ -29,6 +31,7 @@ loop-j-preserved c = let a = c.args in
     )
 
 pub returns : goal.returns
-returns c = let a = c.args in
+returns c =
+    let a = c.args in
     c.loop-j.invariant.2
     ∙ behind_end a.held.now a.piece.now a.i a.from c.requires.0 c.requires.1 c.loop-j.j (omega arith)

@@ -11,11 +11,13 @@ pub overflow_add-bytes : goal.overflow_add-bytes
 overflow_add-bytes c = let w = c.loop-k.invariant.within in omega arith
 
 pub bounds-bytes-at : goal.bounds-bytes-at
-bounds-bytes-at c = let w = c.loop-k.invariant.within in
+bounds-bytes-at c =
+    let w = c.loop-k.invariant.within in
     let l = put_length _ _ _ _ c.requires _ _ _ c.loop-k.invariant in omega arith
 
 pub loop-k-preserved : goal.loop-k-preserved
-loop-k-preserved c = let a = c.args in
+loop-k-preserved c =
+    let a = c.args in
     let now = c.loop-k in
     let one : now.k ≡ suc (now.k - 1) = omega arith in
     put_step _ _ _ _ c.requires _ _ _

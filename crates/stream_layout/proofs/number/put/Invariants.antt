@@ -1,4 +1,3 @@
-use Prim.Native.Nat.{◌-◌}
 use Rattle.stream_layout.proofs.Numbers.{Laid}
 use Rattle.stream_layout.proofs.number.put.Given as goal
 

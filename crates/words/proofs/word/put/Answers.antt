@@ -14,7 +14,8 @@ pub bounds-bytes-at-4 : goal.bounds-bytes-at-4
 bounds-bytes-at-4 c = simp length-set (omega arith)
 
 pub returns : goal.returns
-returns c = let a = c.args in
+returns c =
+    let a = c.args in
     let n = a.at in
     λ i. set (set (set (set a.bytes.now n (c.byte0.ensures i)) (n + 1) (c.byte1.ensures i)) (n + 2) (c.byte2.ensures i)) (n + 3)
     (c.byte3.ensures i)

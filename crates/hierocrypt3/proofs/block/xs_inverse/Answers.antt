@@ -1,0 +1,7 @@
+use Rattle.hierocrypt3.proofs.Steps.{xs_columns⁻}
+use Rattle.hierocrypt3.proofs.block.xs_inverse.Goals as goal
+
+pub returns : goal.returns
+returns c = let args = c.args in
+    xs_columns⁻ args.keys.now args.i args.x c.xs_column_inverse.ensures c.xs_column_inverse-2.ensures
+    c.xs_column_inverse-3.ensures c.xs_column_inverse-4.ensures

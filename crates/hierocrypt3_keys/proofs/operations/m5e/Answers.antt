@@ -1,0 +1,13 @@
+use mathlib.Core.Path.{◌∙◌}
+use mathlib.Core.List.{◌++◌}
+use lib.Bits.{bit_xor}
+use Rattle.laws.specs.Matrix.{bit_matrix}
+use Rattle.hierocrypt3_steps.specs.Operations as operations
+use Rattle.hierocrypt3_keys.specs.Operations.{M5E}
+use Rattle.hierocrypt3_keys.proofs.operations.m5e.Goals as goal
+
+pub returns : goal.returns
+unfolding M5E
+returns c = c.joined.ensures
+    ∙ (λ i. c.bit_matrix.ensures i ++ c.bit_matrix-2.ensures i)
+    ∙ (λ i. bit_matrix bit_xor 0 4 operations.a (c.half.ensures i) ++ bit_matrix bit_xor 0 4 operations.c (c.half-2.ensures i))
