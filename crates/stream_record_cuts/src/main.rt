@@ -6,14 +6,14 @@ use edge_words::{front, hex, line, number, say};
 use stream::Stream;
 
 // Where in the message it is cut: at one place, or at every one.
-#[derive(Drop)]
+#[derive(Clone, Copy)]
 struct Stops {
     every: bool,
     place: usize,
 }
 
 // A message on its way: whether every call was done, the stream, and how many bytes are written.
-#[derive(Drop)]
+#[derive(Clone, Copy)]
 struct Run {
     done: bool,
     stream: Stream,
@@ -110,7 +110,7 @@ fn agree(a: Run, b: Run) -> bool {
 }
 
 // How many runs there were, and how many of them differed from the uncut one.
-#[derive(Drop)]
+#[derive(Clone, Copy)]
 struct Tally {
     runs: u64,
     differ: u64,
