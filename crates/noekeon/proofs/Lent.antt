@@ -4,7 +4,7 @@ use mathlib.Core.Bool.{Bool, true, false}
 use mathlib.Core.List.{List}
 use Prim.Native.Nat.{ℕ}
 use lib.ListN.{length, get_or}
-use Rattle.noekeon_steps.specs.Rule.{Rule, rule}
+use Rattle.noekeon_steps.specs.Rule.{rule}
 use Rattle.noekeon.specs.Noekeon.{constant}
 
 how_many_lem : (b : Bool) → length (rule b).constants ≡ 17

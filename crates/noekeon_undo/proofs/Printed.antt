@@ -5,7 +5,7 @@ use lib.ListN.{get_or, replicate}
 use lib.Bits.{xor_zero_r}
 use Rattle.laws.specs.Rounds.{steps}
 use Rattle.noekeon_steps.specs.declared.Quad.{Quad}
-use Rattle.noekeon_steps.specs.Rule.{Rule, earlier}
+use Rattle.noekeon_steps.specs.Rule.{earlier}
 use Rattle.noekeon_steps.specs.Steps.{first_xored, θ, γ, π1, π2}
 use Rattle.noekeon.specs.Noekeon.{constant, mixed, round, cipher, round⁻, cipher⁻}
 

@@ -1,6 +1,5 @@
 -- `round_keys_with`. The loop's invariant: y and l are those of generation i, and the bytes of the first 4i of q stand in their places.
 use mathlib.Core.Path.{ap, ◌∙◌}
-use Prim.Native.Nat.{◌-◌}
 use borrow.Author.Rules.{rules}
 use Rattle.e2_keys.specs.Keys.{L}
 use Rattle.e2_keys.specs.code.Layout.{four_halves}
@@ -16,9 +15,9 @@ g_l-next_l-requires c = c.requires.table_value
 
 pub loop-i-preserved : goal.loop-i-preserved
 loop-i-preserved c = (
-      search rules,
-      generating_step _ _ _ _ _ _ _ _ c.loop-i.invariant.1 c.loop-i-test.true c.g_y-next_y.ensures c.g_l-next_l.ensures c.put_four.ensures,
-    )
+  search rules,
+  generating_step _ _ _ _ _ _ _ _ c.loop-i.invariant.1 c.loop-i-test.true c.g_y-next_y.ensures c.g_l-next_l.ensures c.put_four.ensures,
+)
 
 pub returns : goal.returns
 returns c = generating_end _ _ _ _ _ c.loop-i.invariant.1 c.loop-i-test.false

@@ -1,5 +1,5 @@
 use mathlib.Core.Path.{◌≡◌, ap, ◌∙◌, subst}
-use Prim.Native.Nat.{ℕ, ◌+◌, ◌-◌, ◌/◌}
+use Prim.Native.Nat.{ℕ, ◌+◌, ◌/◌}
 use native.Mathlib.Omega.{arith}
 use lib.ListN.{length}
 use borrow.Author.Rules.{rules}
@@ -11,12 +11,12 @@ use Rattle.hierocrypt3_keys.proofs.round_keys.Goals as goal
 pub loop-t-init : goal.loop-t-init
 unfolding Z
 loop-t-init c = (
-      search rules,
-      c.sbox-sbox.ensures,
-      c.pre_whitening-z.ensures ∙ ap (σ0 (G0 5)) c.padding.ensures,
-      laid_start c.args.key.now,
-      search rules,
-    )
+  search rules,
+  c.sbox-sbox.ensures,
+  c.pre_whitening-z.ensures ∙ ap (σ0 (G0 5)) c.padding.ensures,
+  laid_start c.args.key.now,
+  search rules,
+)
 
 pub put_key-k-requires : goal.put_key-k-requires
 put_key-k-requires c = omega (arith, c.loop-t-test.true, c.loop-t.invariant.4)

@@ -1,6 +1,6 @@
 -- `forth`. The loop's invariant: after i turns, i rounds.
 use mathlib.Core.Path.{ap, ap₂, ◌∙◌}
-use Prim.Native.Nat.{ℕ, ◌-◌}
+use Prim.Native.Nat.{ℕ}
 use native.Mathlib.Omega.{arith}
 use borrow.Author.Rules.{rules}
 use Rattle.laws.proofs.Rounds.{steps_start, steps_step, steps_end}

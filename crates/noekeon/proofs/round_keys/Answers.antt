@@ -1,7 +1,5 @@
 -- `round_keys`. The loop's invariant: the first i bytes of the key, and zeros.
 use mathlib.Core.Path.{◌≡◌, refl, ◌∙◌}
-use Prim.Native.Nat.{◌-◌}
-use lib.ListN.{take}
 use borrow.Author.Rules.{rules}
 use Rattle.runs.proofs.Fill.{fill_next}
 use Rattle.noekeon.proofs.Padded.{padded}

@@ -1,7 +1,7 @@
 -- `block::rounds`. The loop's invariant: after i rounds the halves are those of i rounds by their numbers.
 use mathlib.Core.List.{List}
 use mathlib.Core.Path.{sym, ap, ◌∙◌}
-use Prim.Native.Nat.{ℕ, suc, ◌-◌}
+use Prim.Native.Nat.{ℕ, suc}
 use native.Mathlib.Numerals.{add-one}
 use borrow.Author.Rules.{rules}
 use Rattle.laws.specs.Bytes.{xor_l}

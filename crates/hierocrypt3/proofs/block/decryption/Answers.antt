@@ -1,6 +1,5 @@
 use mathlib.Core.Path.{◌∙◌}
 use borrow.Author.Rules.{rules}
-use Rattle.laws.specs.Rounds.{back}
 use Rattle.laws.proofs.Rounds.{loops, back_step, back_end}
 use Rattle.hierocrypt3.proofs.Numbered.{decryption_end}
 use Rattle.hierocrypt3.proofs.block.decryption.Goals as goal

@@ -1,5 +1,4 @@
 use mathlib.Core.Path.{◌∙◌}
-use Prim.Native.Nat.{◌-◌}
 use borrow.Author.Rules.{rules}
 use Rattle.laws.proofs.Rounds.{loops, steps_step}
 use Rattle.hierocrypt3.proofs.Numbered.{encryption_end}

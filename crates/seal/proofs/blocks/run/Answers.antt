@@ -27,7 +27,7 @@ returns c =
     let l = held_16 in
     let k = a.kept in
     let p = a.piece.now in
-    let message = ap (λ (x : List ℕ). x ++ take (length p - (16 - k)) (drop (16 - k) p)) c.First-Block.ensures ∙ hand_parts a.s.held p k (omega arith) c.requires.1 in
+    let message = ap (λ (x : List ℕ). x ++ take (length p - (16 - k)) (drop (16 - k) p)) c.first_block-first.ensures ∙ hand_parts a.s.held p k (omega arith) c.requires.1 in
     c.last.ensures
     ∙ chained_by_cbc E a.s.chain _
     ∙ ap (λ (w : List ℕ). chained E a.s.chain (blocks a.n w)) message

@@ -1,4 +1,3 @@
-use mathlib.Core.Logic.{inl, inr}
 use mathlib.Core.Path.{◌≡◌, refl, sym, ap, ap₂, ◌∙◌}
 use mathlib.Core.List.{List, ◌++◌}
 use Prim.Native.Nat.{ℕ, ◌+◌, ◌*◌, ◌%◌, ◌/◌}
@@ -17,22 +16,23 @@ use Rattle.stream.specs.Calls.{piece_refusal, fed_as}
 use Rattle.stream.specs.declared.Stream.{Stream}
 use Rattle.stream.proofs.Outcomes.{good, AcceptedPiece, accepted_piece, piece_refused, piece_fed, piece_put}
 use Rattle.stream.proofs.Stream.feed.Goals as goal
+use Rattle.stream.proofs.Stream.feed.Goals.{then-n-gt0, else-n-gt0}
 
 -- ---- behind the blocks: a new chain block, and the stream else as it was
-abbrev chainedTo : Stream → List ℕ → Stream
-chainedTo s last = stream_of s.schedule s.direction s.count last s.held s.closed
+abbrev chained_to : Stream → List ℕ → Stream
+chained_to s last = stream_of s.schedule s.direction s.count last s.held s.closed
 
 abbrev Ran : Stream → List ℕ → List ℕ → ℕ → List ℕ → List ℕ → Type 0
 Ran s p o = Chained (enciphered s.schedule) (deciphered s.schedule) s.direction s.chain (at_hand s p) o
 
 -- no block: the chain and the output as they were
-ran-none : (s : Stream) (p o : List ℕ) (n : ℕ) (o' : List ℕ) → n ≡ 0 → o' ≡ o → Ran s p o n s.chain o'
-ran-none s p o n o' none e =
+ran_none : (s : Stream) (p o : List ℕ) (n : ℕ) (o' : List ℕ) → n ≡ 0 → o' ≡ o → Ran s p o n s.chain o'
+ran_none s p o n o' none e =
     rw (none, e) (running_end _ _ _ _ _ _ 0 0 refl (running_start (enciphered s.schedule) (deciphered s.schedule) s.direction s.chain (at_hand s p) o))
 
 record Past (s : Stream) (p o : List ℕ) (next : Stream) (o' : List ℕ) : Type 0 where
   last : List ℕ
-  next-is : next ≡ chainedTo s last
+  next_is : next ≡ chained_to s last
   ran : Ran s p o ((s.count % 16 + length p) / 16) last o'
 
 pub returns-then-no-ne-DONE : goal.returns-then-no-ne-DONE
@@ -49,29 +49,15 @@ run-last-requires c =
     let f = k.fits in
     (good_length _ (good _ k.state).schedule, c.if-n-gt0.true, omega arith, omega arith)
 
-pub slice_bounds-left_over-end : goal.slice_bounds-left_over-end
-slice_bounds-left_over-end c =
-    let past : Past c.args.self c.args.piece.now c.args.out.now c.if-n-gt0.next c.if-n-gt0.out = elim c.if-n-gt0.branch [
-      | inl w ↦ record { last = w.2.result; next-is = w.6; ran = record { last_is = w.2.ensures.last_is; out_is = w.5 ∙ w.2.ensures.out_is } }
-      | inr w ↦ record { last = c.args.self.chain; next-is = w.2; ran = ran-none c.args.self c.args.piece.now c.args.out.now _ _ (omega arith) w.1 }
-    ] in
-    let held_is : c.if-n-gt0.next.held ≡ c.args.self.held = ap (λ (s : Stream). s.held) past.next-is in
-    let held_15 : length c.args.self.held ≡ 15 = search rules in
-    let long : length c.if-n-gt0.next.held ≡ 15 = ap length held_is ∙ held_15 in
-    sym long
-
+-- behind the blocks the held bytes and the count stand, whichever way it came
 pub left_over-requires : goal.left_over-requires
 left_over-requires c =
     let done : piece_refusal c.args.self (length c.args.piece.now) (length c.args.out.now) ≡ refusal.done = sym c.piece_refusal-no.ensures ∙ c.if-no-ne-DONE.false in
     let accepted : AcceptedPiece c.args.self (length c.args.piece.now) (length c.args.out.now) = accepted_piece c.args.self (length c.args.piece.now) (length c.args.out.now) done in
-    let past : Past c.args.self c.args.piece.now c.args.out.now c.if-n-gt0.next c.if-n-gt0.out = elim c.if-n-gt0.branch [
-      | inl w ↦ record { last = w.2.result; next-is = w.6; ran = record { last_is = w.2.ensures.last_is; out_is = w.5 ∙ w.2.ensures.out_is } }
-      | inr w ↦ record { last = c.args.self.chain; next-is = w.2; ran = ran-none c.args.self c.args.piece.now c.args.out.now _ _ (omega arith) w.1 }
-    ] in
-    let held_is : c.if-n-gt0.next.held ≡ c.args.self.held = ap (λ (s : Stream). s.held) past.next-is in
+    let held_is : c.if-n-gt0.next.held ≡ c.args.self.held =
+    elim c.if-n-gt0.branch [ then-n-gt0 w ↦ ap (λ (s : Stream). s.held) w.next-is | else-n-gt0 w ↦ ap (λ (s : Stream). s.held) w.next-is ] in
     let held_15 : length c.args.self.held ≡ 15 = search rules in
     let long : length c.if-n-gt0.next.held ≡ 15 = ap length held_is ∙ held_15 in
-    let l = long in
     let zero = ap (λ (h : List ℕ). zeros (drop (c.args.self.count % 16) h)) held_is in
     (omega arith, omega arith, zero ∙ (good _ accepted.state).held, omega arith, omega arith)
 
@@ -79,25 +65,27 @@ pub overflow_add-next : goal.overflow_add-next
 overflow_add-next c =
     let done : piece_refusal c.args.self (length c.args.piece.now) (length c.args.out.now) ≡ refusal.done = sym c.piece_refusal-no.ensures ∙ c.if-no-ne-DONE.false in
     let accepted : AcceptedPiece c.args.self (length c.args.piece.now) (length c.args.out.now) = accepted_piece c.args.self (length c.args.piece.now) (length c.args.out.now) done in
-    let past : Past c.args.self c.args.piece.now c.args.out.now c.if-n-gt0.next c.if-n-gt0.out = elim c.if-n-gt0.branch [
-      | inl w ↦ record { last = w.2.result; next-is = w.6; ran = record { last_is = w.2.ensures.last_is; out_is = w.5 ∙ w.2.ensures.out_is } }
-      | inr w ↦ record { last = c.args.self.chain; next-is = w.2; ran = ran-none c.args.self c.args.piece.now c.args.out.now _ _ (omega arith) w.1 }
-    ] in
     let k = accepted.within in
-    let n : c.if-n-gt0.next.count ≡ c.args.self.count = ap (λ (s : Stream). s.count) past.next-is in
+    let n : c.if-n-gt0.next.count ≡ c.args.self.count =
+    elim c.if-n-gt0.branch [ then-n-gt0 w ↦ ap (λ (s : Stream). s.count) w.next-is | else-n-gt0 w ↦ ap (λ (s : Stream). s.count) w.next-is ] in
     omega arith
-
-pub shape_of-out : goal.shape_of-out
-shape_of-out c = elim c.if-n-gt0.branch [ inl w ↦ ap length w.5 ∙ w.2.kept.1.1.0 | inr w ↦ ap length w.1 ]
 
 pub returns : goal.returns
 returns c =
     let done : piece_refusal c.args.self (length c.args.piece.now) (length c.args.out.now) ≡ refusal.done = sym c.piece_refusal-no.ensures ∙ c.if-no-ne-DONE.false in
     let past : Past c.args.self c.args.piece.now c.args.out.now c.if-n-gt0.next c.if-n-gt0.out = elim c.if-n-gt0.branch [
-      | inl w ↦ record { last = w.2.result; next-is = w.6; ran = record { last_is = w.2.ensures.last_is; out_is = w.5 ∙ w.2.ensures.out_is } }
-      | inr w ↦ record { last = c.args.self.chain; next-is = w.2; ran = ran-none c.args.self c.args.piece.now c.args.out.now _ _ (omega arith) w.1 }
+      | then-n-gt0 w ↦ record {
+        last = w.run-last.result;
+        next_is = w.next-is;
+        ran = record { last_is = w.run-last.ensures.last_is; out_is = w.out-is ∙ w.run-last.ensures.out_is };
+      }
+      | else-n-gt0 w ↦ record {
+        last = c.args.self.chain;
+        next_is = w.next-is;
+        ran = ran_none c.args.self c.args.piece.now c.args.out.now _ _ (omega arith) w.out-is;
+      }
     ] in
-    let held_is : c.if-n-gt0.next.held ≡ c.args.self.held = ap (λ (s : Stream). s.held) past.next-is in
+    let held_is : c.if-n-gt0.next.held ≡ c.args.self.held = ap (λ (s : Stream). s.held) past.next_is in
     let held_15 : length c.args.self.held ≡ 15 = search rules in
     let long : length c.if-n-gt0.next.held ≡ 15 = ap length held_is ∙ held_15 in
     let a = c.args in
@@ -108,7 +96,7 @@ returns c =
     let b = past in
     let held = c.left_over.ensures
     ∙ ap₂ (λ (k : ℕ) (h : List ℕ). held_in k (drop (16 * n) (take (s.count % 16) h ++ p))) long held_is in
-    let next = ap (λ (x : Stream). fed_as refusal.done (16 * n) (stream_of x.schedule x.direction (x.count + length p) x.chain c.left_over.new.held x.closed)) b.next-is in
+    let next = ap (λ (x : Stream). fed_as refusal.done (16 * n) (stream_of x.schedule x.direction (x.count + length p) x.chain c.left_over.new.held x.closed)) b.next_is in
     record {
       returned = c.fed_as-2.ensures ∙ next ∙ piece_fed s p a.out.now n z (omega arith) _ _ _ b.ran held;
       left = piece_put s p a.out.now n z (omega arith) _ _ b.ran;

@@ -31,5 +31,5 @@ returns c =
     let l = held_15 in
     let k = a.s.count % 16 in
     let p = a.piece.now in
-    let message = ap (λ (x : List ℕ). x ++ take (length p - (16 - k)) (drop (16 - k) p)) c.First-Block.ensures ∙ hand_parts a.s.held p k (omega arith) (omega arith) in
+    let message = ap (λ (x : List ℕ). x ++ take (length p - (16 - k)) (drop (16 - k) p)) c.first_block-first.ensures ∙ hand_parts a.s.held p k (omega arith) (omega arith) in
     of-message a.s message c.run.ensures
