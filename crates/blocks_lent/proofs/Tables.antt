@@ -6,7 +6,7 @@ use lib.Dec.{eqb}
 use borrow.Author.Tests.{eq-eqb, ne_eqb}
 use Rattle.hierocrypt3_tables.specs.code.Tables as hierocrypt3
 use Rattle.e2_table.specs.Substitution as e2
-use Rattle.noekeon_steps.specs.Rule.{Rule, rule}
+use Rattle.noekeon_steps.specs.Rule.{rule}
 use Rattle.blocks_lent.specs.Ways.{bytes_lent, words_lent, Lent}
 use Rattle.blocks_lent.specs.declared.Way.{Way}
 

@@ -3,7 +3,7 @@ use Rattle.std.specs.Prelude.{◌≡◌, true, List, [], ◌∷◌, ℕ, eqb}
 use Rattle.laws.specs.Choice.{choose}
 use Rattle.hierocrypt3_tables.specs.code.Tables as hierocrypt3
 use Rattle.e2_table.specs.Substitution as e2
-use Rattle.noekeon_steps.specs.Rule.{Rule, rule}
+use Rattle.noekeon_steps.specs.Rule.{rule}
 use Rattle.cipher_numbers.specs.Ciphers.{number, is_length}
 use Rattle.blocks_lent.specs.declared.Way.{Way}
 

@@ -17,7 +17,6 @@ use Rattle.cipher_numbers.proofs.Legal.{legal_cipher}
 use Rattle.cipher.specs.Schedule.{schedule_of, bad, zero_schedule}
 use Rattle.cipher.specs.Calls.{set_up_refusal, Usable, schedule, set_up_as, set_up, block_refusal, block_out}
 use Rattle.cipher.specs.declared.Schedule.{Schedule}
-use Rattle.cipher.specs.declared.SetUp.{SetUp}
 
 -- ---- a schedule
 module _ (s : Schedule) where

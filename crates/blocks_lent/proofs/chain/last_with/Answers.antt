@@ -1,8 +1,6 @@
 use mathlib.Core.Path.{◌≡◌, sym}
 use mathlib.Core.List.{◌++◌}
-use Prim.Native.Nat.{◌-◌}
 use native.Mathlib.Omega.{arith}
-use Rattle.cbc.specs.Cbc.{chain}
 use Rattle.cbc.proofs.Parts.{chain_none}
 use Rattle.cbc.proofs.Loop.{chain_next}
 use Rattle.blocks_lent.specs.Ways.{E}

@@ -12,11 +12,11 @@ use Rattle.e2.specs.declared.block.Halves.{Halves}
 use Rattle.e2.proofs.block.cipher.Goals as goal
 
 -- the first step's halves, worked by the rounds and joined, are the rounds of the first step
-by-halves : (k : ℕ → List ℕ) (m : List ℕ) (f r : Halves) → block_bytes f ≡ first k m
+by_halves : (k : ℕ → List ℕ) (m : List ℕ) (f r : Halves) → block_bytes f ≡ first k m
     → (pair_bytes r.l, pair_bytes r.r) ≡ feistel F (xor_l 8) (tab 12 (λ i. k (suc i))) (pair_bytes f.l, pair_bytes f.r)
     → last k (block_bytes r) ≡ cipher k m
 unfolding cipher rounds
-by-halves k m f r e d =
+by_halves k m f r e d =
     let network : List ℕ → List ℕ × List ℕ = λ b. feistel F (xor_l 8) (tab 12 (λ i. k (suc i))) (part 0 0 8 b, part 0 8 8 b) in
     let join : List ℕ × List ℕ → List ℕ = λ p. last k (p.0 ++ p.1) in
     ap join d ∙ ap (λ (b : List ℕ). join (network b)) e
@@ -24,4 +24,4 @@ by-halves k m f r e d =
 pub returns : goal.returns
 returns c = let a = c.args in
     let k : ℕ → List ℕ = λ i. round_key a.keys.now (sequence a.back i) in
-    c.last.ensures ∙ by-halves k a.block c.first-m.result c.rounds-n.result c.first-m.ensures c.rounds-n.ensures
+    c.last.ensures ∙ by_halves k a.block c.first-m.result c.rounds-n.result c.first-m.ensures c.rounds-n.ensures

@@ -5,9 +5,9 @@ use borrow.Author.Rules.{rules}
 use Rattle.laws.specs.Matrix.{pick}
 use Rattle.hierocrypt3_steps.proofs.bits.picked.Goals as goal
 
-not-zero : (b x : ℕ) → (b ≡ 0 → ⊥) → x ≡ pick bit_xor 0 b x
-not-zero zero x h = absurd (h refl)
-not-zero (suc b) x h = refl
+not_zero : (b x : ℕ) → (b ≡ 0 → ⊥) → x ≡ pick bit_xor 0 b x
+not_zero zero x h = absurd (h refl)
+not_zero (suc b) x h = refl
 
 pub returns : goal.returns
-returns c = search (rules, not-zero)
+returns c = search (rules, not_zero)
