@@ -79,6 +79,7 @@ pub fn empty(slot: &[u8]) -> bool
 }
 
 // Does it keep the rules of a slot that isn't empty?
+#[tactic(auto, unfolding(crate::specs::Slot::keeps_rules))]
 fn keeps_rules(slot: &[u8]) -> bool
     requires { length slot.now ≡ 16 }
     ensures { result ≡ spec.keeps_rules slot.now }

@@ -25,6 +25,7 @@ fn digit(c: u8) -> u64
     }
 }
 
+#[tactic(auto, unfolding(crate::specs::Number::digit))]
 pub fn whole(text: &[u8]) -> Spelled
     ensures { result ≡ spec.whole text.now }
 {
