@@ -10,7 +10,7 @@ ghost use Rattle.card.specs.Promises.{Judges, Finds, Puts};
 use card_slots::{pairs, search, slot};
 
 // Whether a card is good and, if so, how many slots of it are filled.
-#[derive(Drop)]
+#[derive(Clone, Copy)]
 pub struct Judged {
     pub good: bool,
     pub filled: usize,

@@ -23,17 +23,18 @@ fn five(a: [u8; 16], b: [u8; 16], c: [u8; 16], d: [u8; 16], e: [u8; 16]) -> [u8;
 }
 
 // ---- 02's example
-fn rooms(first: &[u8], second: &[u8]) {
-    compare(b"the example", first, second, 12);
-    compare(b"the example with more room", first, second, 15);
-    compare(b"the example in room one byte short", first, second, 11);
-    compare(b"the example, the cards exchanged", second, first, 12);
+fn rooms(rt: &impl Print, first: &[u8], second: &[u8]) {
+    compare(rt, b"the example", first, second, 12);
+    compare(rt, b"the example with more room", first, second, 15);
+    compare(rt, b"the example in room one byte short", first, second, 11);
+    compare(rt, b"the example, the cards exchanged", second, first, 12);
 }
 
-fn other_orders(a: [u8; 16], b: [u8; 16], c: [u8; 16], d: [u8; 16]) {
+fn other_orders(rt: &impl Print, a: [u8; 16], b: [u8; 16], c: [u8; 16], d: [u8; 16]) {
     let first = three(b, empty(), a);
     let second = five(empty(), d, empty(), c, empty());
     compare(
+        rt,
         b"the example in other orders, with empty slots",
         &first,
         front(&second, 64),
@@ -41,15 +42,15 @@ fn other_orders(a: [u8; 16], b: [u8; 16], c: [u8; 16], d: [u8; 16]) {
     );
 }
 
-fn example() {
+fn example(rt: &impl Print) {
     let a = climb(1, 1, 1000);
     let b = climb(1, 2, 1000);
     let c = climb(1, 2, 1100);
     let d = climb(2, 1, 1000);
     let first = three(a, b, empty());
     let second = three(c, d, empty());
-    rooms(front(&first, 32), front(&second, 32));
-    other_orders(a, b, c, d);
+    rooms(rt, front(&first, 32), front(&second, 32));
+    other_orders(rt, a, b, c, d);
 }
 
 // ---- cards of 256 full slots
@@ -64,17 +65,18 @@ fn shuffled(slots: [u8; 4112]) -> [u8; 4096] {
     other
 }
 
-fn same_card() {
+fn same_card(rt: &impl Print) {
     let slots = full(1, 1, 1000);
     let other = shuffled(slots);
     let card = front(&slots, 4096);
-    compare(b"the same card", card, card, 0);
-    compare(b"the same card shuffled", card, &other, 0);
+    compare(rt, b"the same card", card, card, 0);
+    compare(rt, b"the same card shuffled", card, &other, 0);
 }
 
-fn other_contents(first: &[u8], second: &[u8]) {
-    compare(b"256 pairs with other contents", first, second, 1024);
+fn other_contents(rt: &impl Print, first: &[u8], second: &[u8]) {
+    compare(rt, b"256 pairs with other contents", first, second, 1024);
     compare(
+        rt,
         b"256 pairs with other contents in room one byte short",
         first,
         second,
@@ -82,9 +84,10 @@ fn other_contents(first: &[u8], second: &[u8]) {
     );
 }
 
-fn nothing_in_common(first: &[u8], second: &[u8]) {
-    compare(b"no pair in common", first, second, 2048);
+fn nothing_in_common(rt: &impl Print, first: &[u8], second: &[u8]) {
+    compare(rt, b"no pair in common", first, second, 2048);
     compare(
+        rt,
         b"no pair in common in room one byte short",
         first,
         second,
@@ -92,31 +95,37 @@ fn nothing_in_common(first: &[u8], second: &[u8]) {
     );
 }
 
-fn two_full_cards() {
+fn two_full_cards(rt: &impl Print) {
     let slots = full(1, 1, 1000);
     let first = front(&slots, 4096);
     let targets = full(1, 1, 2000);
-    other_contents(first, front(&targets, 4096));
+    other_contents(rt, first, front(&targets, 4096));
     let recipes = full(9, 1, 1000);
-    nothing_in_common(first, front(&recipes, 4096));
+    nothing_in_common(rt, first, front(&recipes, 4096));
 }
 
 // ---- one record or none
-fn against_no_bytes(one: &[u8]) {
-    compare(b"an empty slot against no bytes", &empty(), b"", 0);
-    compare(b"one record against no bytes", one, b"", 4);
-    compare(b"one record against no bytes in no room", one, b"", 0);
-    compare(b"no bytes against one record", b"", one, 4);
+fn against_no_bytes(rt: &impl Print, one: &[u8]) {
+    compare(rt, b"an empty slot against no bytes", &empty(), b"", 0);
+    compare(rt, b"one record against no bytes", one, b"", 4);
+    compare(rt, b"one record against no bytes in no room", one, b"", 0);
+    compare(rt, b"no bytes against one record", b"", one, 4);
 }
 
-fn other_fields(one: &[u8]) {
-    compare(b"another kind", one, &record(1, 1, 2, 1000, 600, 10), 4);
-    compare(b"another rate", one, &record(1, 1, 1, 1000, 601, 10), 4);
-    compare(b"another hold", one, &record(1, 1, 1, 1000, 600, 266), 4);
+fn other_fields(rt: &impl Print, one: &[u8]) {
+    compare(rt, b"another kind", one, &record(1, 1, 2, 1000, 600, 10), 4);
+    compare(rt, b"another rate", one, &record(1, 1, 1, 1000, 601, 10), 4);
+    compare(
+        rt,
+        b"another hold",
+        one,
+        &record(1, 1, 1, 1000, 600, 266),
+        4,
+    );
 }
 
 // ---- the order of the list
-fn order() {
+fn order(rt: &impl Print) {
     let card = five(
         climb(256, 1, 1000),
         climb(1, 32, 1000),
@@ -124,28 +133,28 @@ fn order() {
         climb(1, 2, 1000),
         climb(255, 3, 1000),
     );
-    compare(b"by recipe, then segment", &card, b"", 20);
+    compare(rt, b"by recipe, then segment", &card, b"", 20);
 }
 
 // ---- bad cards
-fn bad_cards(one: &[u8]) {
-    compare(b"the first card bad", front(one, 15), one, 4);
+fn bad_cards(rt: &impl Print, one: &[u8]) {
+    compare(rt, b"the first card bad", front(one, 15), one, 4);
     let twice = three(climb(2, 1, 1000), climb(2, 1, 1100), empty());
-    compare(b"the second card bad", one, front(&twice, 32), 12);
+    compare(rt, b"the second card bad", one, front(&twice, 32), 12);
     let hot = climb(2, 1, 13501);
-    compare(b"the second card bad, no room", one, &hot, 0);
+    compare(rt, b"the second card bad, no room", one, &hot, 0);
     let zeros = [0u8; 4112];
-    compare(b"both cards bad", &zeros, &climb(1, 0, 1000), 2048);
+    compare(rt, b"both cards bad", &zeros, &climb(1, 0, 1000), 2048);
 }
 
-fn main() {
-    compare(b"no bytes against no bytes", b"", b"", 0);
-    example();
-    same_card();
-    two_full_cards();
+fn main(rt: HostRuntime) {
+    compare(&rt, b"no bytes against no bytes", b"", b"", 0);
+    example(&rt);
+    same_card(&rt);
+    two_full_cards(&rt);
     let one = climb(1, 1, 1000);
-    against_no_bytes(&one);
-    other_fields(&one);
-    order();
-    bad_cards(&one);
+    against_no_bytes(&rt, &one);
+    other_fields(&rt, &one);
+    order(&rt);
+    bad_cards(&rt, &one);
 }

@@ -4,12 +4,12 @@ use edge_words::{front, line, number, say};
 // Every byte of the output before the call.
 const BEFORE: u8 = 238;
 
-fn list(records: &[u8]) {
+fn list(rt: &impl Print, records: &[u8]) {
     let mut i: usize = 0;
     while i < records.len() / 4 {
         let a = i * 4;
         let e = a + 4;
-        line(b"  ", &records[a..e]);
+        line(rt, b"  ", &records[a..e]);
         i += 1;
     }
 }
@@ -26,28 +26,28 @@ fn stands(out: &[u8], from: usize) -> bool {
     true
 }
 
-fn left(out: &[u8], written: usize) {
-    list(front(out, written));
+fn left(rt: &impl Print, out: &[u8], written: usize) {
+    list(rt, front(out, written));
     if stands(out, written) {
-        say(b"  behind it: as it was\n");
+        say(rt, b"  behind it: as it was\n");
     } else {
-        say(b"  behind it: changed\n");
+        say(rt, b"  behind it: changed\n");
     }
 }
 
-fn into(name: &[u8], first: &[u8], second: &[u8], out: &mut [u8]) {
-    say(name);
-    number(b", in ", out.len() as u64);
+fn into(rt: &impl Print, name: &[u8], first: &[u8], second: &[u8], out: &mut [u8]) {
+    say(rt, name);
+    number(rt, b", in ", out.len() as u64);
     let compared = card_compare::compare(first, second, out);
-    number(b" of room: answer ", compared.answer as u64);
-    number(b", writes ", compared.written);
-    say(b"\n");
-    left(out, compared.written as usize);
+    number(rt, b" of room: answer ", compared.answer as u64);
+    number(rt, b", writes ", compared.written);
+    say(rt, b"\n");
+    left(rt, out, compared.written as usize);
 }
 
-pub fn compare(name: &[u8], first: &[u8], second: &[u8], room: usize) {
+pub fn compare(rt: &impl Print, name: &[u8], first: &[u8], second: &[u8], room: usize) {
     let mut out = [BEFORE; 2048];
     if room <= 2048 {
-        into(name, first, second, &mut out[..room]);
+        into(rt, name, first, second, &mut out[..room]);
     }
 }

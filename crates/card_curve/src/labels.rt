@@ -6,7 +6,7 @@ use card_fields::Fields;
 use wording::{fill, words};
 
 // How far from the line a label's degrees and its minutes stand, above it or below.
-#[derive(Drop)]
+#[derive(Clone, Copy)]
 struct Beside {
     above: bool,
     degrees: u64,

@@ -5,7 +5,7 @@ use card_fields::Fields;
 use wording::{fill, words};
 
 // Where the kiln is, and when.
-#[derive(Drop)]
+#[derive(Clone, Copy)]
 pub struct Moment {
     pub seconds: u32,
     pub tenths: u16,

@@ -3,7 +3,7 @@ use firing::Time;
 
 // The seconds from left to right, the tenths of a degree from bottom to top, the first peak; every how many tenths and hours
 // a line stands.
-#[derive(Drop)]
+#[derive(Clone, Copy)]
 pub struct Scale {
     pub span: u64,
     pub ceiling: u64,

@@ -1,26 +1,26 @@
 // What is shown of a card: whether it is good, what a find hands back, what a put answers and changes.
 use edge_words::{hex, number, say};
 
-pub fn card(name: &[u8], card: &[u8]) {
-    say(name);
+pub fn card(rt: &impl Print, name: &[u8], card: &[u8]) {
+    say(rt, name);
     if card::good(card) {
-        say(b": good yes\n");
+        say(rt, b": good yes\n");
     } else {
-        say(b": good no\n");
+        say(rt, b": good no\n");
     }
 }
 
-pub fn find(card: &[u8], recipe: u64, segment: u64) {
-    number(b"  find ", recipe);
-    number(b" ", segment);
-    say(b": ");
+pub fn find(rt: &impl Print, card: &[u8], recipe: u64, segment: u64) {
+    number(rt, b"  find ", recipe);
+    number(rt, b" ", segment);
+    say(rt, b": ");
     let part = card::find(card, recipe, segment);
     if part.len() == 0 {
-        say(b"nothing");
+        say(rt, b"nothing");
     } else {
-        hex(part);
+        hex(rt, part);
     }
-    say(b"\n");
+    say(rt, b"\n");
 }
 
 fn same(a: &[u8], b: &[u8]) -> bool {
@@ -38,15 +38,15 @@ fn same(a: &[u8], b: &[u8]) -> bool {
 }
 
 // The slot, counted from 1, that has these bytes.
-fn slot_of(card: &[u8], record: &[u8]) {
+fn slot_of(rt: &impl Print, card: &[u8], record: &[u8]) {
     let mut i: usize = 0;
     while i < card.len() / 16 {
         let a = i * 16;
         let e = a + 16;
         if same(&card[a..e], record) {
-            number(b", slot ", i as u64 + 1);
-            say(b" is ");
-            hex(&card[a..e]);
+            number(rt, b", slot ", i as u64 + 1);
+            say(rt, b" is ");
+            hex(rt, &card[a..e]);
         }
         i += 1;
     }
@@ -65,25 +65,25 @@ fn copy(to: &mut [u8], from: &[u8]) {
 }
 
 // A put on the copy of a card, and the slot that is now the record.
-fn put_on(card: &[u8], changed: &mut [u8], record: &[u8]) {
+fn put_on(rt: &impl Print, card: &[u8], changed: &mut [u8], record: &[u8]) {
     copy(changed, card);
-    say(b"  put ");
-    hex(record);
+    say(rt, b"  put ");
+    hex(rt, record);
     let answer = card::put(changed, record);
-    number(b": answer ", answer as u64);
+    number(rt, b": answer ", answer as u64);
     if answer == 0 {
-        slot_of(changed, record);
+        slot_of(rt, changed, record);
     }
     if same(changed, card) {
-        say(b", all as it was");
+        say(rt, b", all as it was");
     }
-    say(b"\n");
+    say(rt, b"\n");
 }
 
-pub fn put(card: &[u8], record: &[u8]) {
+pub fn put(rt: &impl Print, card: &[u8], record: &[u8]) {
     let mut changed = [0u8; 4112];
     let n = card.len();
     if n <= 4112 {
-        put_on(card, &mut changed[..n], record);
+        put_on(rt, card, &mut changed[..n], record);
     }
 }

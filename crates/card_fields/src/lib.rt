@@ -13,7 +13,7 @@ pub const HOLD: u8 = 2;
 pub const DROP: u8 = 3;
 
 // Target in tenths of a degree, rate in those per hour, hold in minutes.
-#[derive(Drop)]
+#[derive(Clone, Copy)]
 pub struct Fields {
     pub recipe: u16,
     pub segment: u8,

@@ -1,22 +1,19 @@
 // What is written, and the outcome behind it.
 use recipe_words::files;
+use std::fs::File;
 
-// The first n bytes to the file of an argument, with no outcome but that of a failure.
-pub fn put(argument: usize, bytes: &[u8], n: usize) -> i32 {
-    let to = files::output(argument);
-    if to < 0 {
-        return to;
+// The first n bytes to the file of an argument, with no outcome but that of a failure, where there is no file to end.
+pub fn put(rt: &HostRuntime, argument: usize, bytes: &[u8], n: usize) -> Option<File> {
+    let mut to = files::output(rt, argument)?;
+    if files::put(rt, &mut to, bytes, n) {
+        return Some(to);
     }
-    if files::put(to, bytes, n) {
-        return to;
-    }
-    -1
+    None
 }
 
 // The same, and that it is done.
-pub fn all(argument: usize, bytes: &[u8], n: usize) {
-    let to = put(argument, bytes, n);
-    if to >= 0 {
-        files::end(to, n as u64);
+pub fn all(rt: &HostRuntime, argument: usize, bytes: &[u8], n: usize) {
+    if let Some(to) = put(rt, argument, bytes, n) {
+        files::end(rt, &to, n as u64);
     }
 }

@@ -105,9 +105,10 @@ fn note(lines: &mut [usize], n: usize, number: usize) {
     }
 }
 
-fn already(card: &[u8], lines: &[usize], number: usize, f: Fields) {
+fn already(rt: &impl Print, card: &[u8], lines: &[usize], number: usize, f: Fields) {
     let earlier = line_of(card, lines, f) as u64;
     named::sentence(
+        rt,
         number,
         b"recipe $ segment $ stands on line $ already",
         &[f.recipe as u64, f.segment as u64, earlier],
@@ -124,16 +125,24 @@ fn wrong(before: Table) -> Table
 }
 
 // A record put behind those that are there, if its pair is new and there is room.
-fn put(card: &mut [u8], lines: &mut [usize], before: Table, number: usize, f: Fields) -> Table
+fn put(
+    rt: &impl Print,
+    card: &mut [u8],
+    lines: &mut [usize],
+    before: Table,
+    number: usize,
+    f: Fields,
+) -> Table
     requires { before.records < number }
     ensures { read_of result card.new ≡ page.with_record (read_of before card.old) f }
 {
     if card::find(card, f.recipe as u64, f.segment as u64).len() > 0 {
-        already(card, lines, number, f);
+        already(rt, card, lines, number, f);
         return wrong(before);
     }
     if card::put(card, &laid(f)) != refusals::DONE {
         named::plain(
+            rt,
             number,
             b"256 records are on the card already, and no more have room",
         );
@@ -147,26 +156,33 @@ fn put(card: &mut [u8], lines: &mut [usize], before: Table, number: usize, f: Fi
 }
 
 // The record of a line of six cells, if all of them are right.
-fn record_of(number: usize, line: &[u8]) -> Record
+fn record_of(rt: &impl Print, number: usize, line: &[u8]) -> Record
     ensures { result ≡ page.record_in line.now }
 {
-    let recipe = record::number(number, card_rules::RECIPE, text(line, 0));
-    let segment = record::number(number, card_rules::SEGMENT, text(line, 1));
-    let kind = record::kind(number, text(line, 2));
-    let target = record::number(number, card_rules::TARGET, text(line, 3));
-    let rate = record::number(number, card_rules::RATE, text(line, 4));
-    let hold = record::number(number, card_rules::HOLD, text(line, 5));
+    let recipe = record::number(rt, number, card_rules::RECIPE, text(line, 0));
+    let segment = record::number(rt, number, card_rules::SEGMENT, text(line, 1));
+    let kind = record::kind(rt, number, text(line, 2));
+    let target = record::number(rt, number, card_rules::TARGET, text(line, 3));
+    let rate = record::number(rt, number, card_rules::RATE, text(line, 4));
+    let hold = record::number(rt, number, card_rules::HOLD, text(line, 5));
     record::of(recipe, segment, kind, target, rate, hold)
 }
 
 // A line read and put. Where it is wrong, that is said.
-fn row(card: &mut [u8], lines: &mut [usize], before: Table, number: usize, line: &[u8]) -> Table
+fn row(
+    rt: &impl Print,
+    card: &mut [u8],
+    lines: &mut [usize],
+    before: Table,
+    number: usize,
+    line: &[u8],
+) -> Table
     requires { before.records < number }
     ensures { read_of result card.new ≡ page.with_line (read_of before card.old) line.now }
 {
     let l = cells::count(line);
     if !l.good {
-        named::plain(number, b"a quote is out of place");
+        named::plain(rt, number, b"a quote is out of place");
         return wrong(before);
     }
     if !l.filled {
@@ -174,21 +190,22 @@ fn row(card: &mut [u8], lines: &mut [usize], before: Table, number: usize, line:
     }
     if l.cells != 6 {
         named::sentence(
+            rt,
             number,
             b"$ fields stand where 6 are wanted",
             &[l.cells as u64],
         );
         return wrong(before);
     }
-    let record = record_of(number, line);
+    let record = record_of(rt, number, line);
     if !record.ok {
         return wrong(before);
     }
-    put(card, lines, before, number, record.fields)
+    put(rt, card, lines, before, number, record.fields)
 }
 
 // The lines from a place on, which stand behind the header.
-fn rows(table: &[u8], from: usize, card: &mut [u8], lines: &mut [usize]) -> Table
+fn rows(rt: &impl Print, table: &[u8], from: usize, card: &mut [u8], lines: &mut [usize]) -> Table
     requires { 1 ≤ from }
     ensures { read_of result card.new ≡ page.with_lines (page.read_as true 0 card.old) (page.lines (drop from table.now)) }
 {
@@ -201,24 +218,28 @@ fn rows(table: &[u8], from: usize, card: &mut [u8], lines: &mut [usize]) -> Tabl
     while at < table.len() {
         let end = line_feed(table, at);
         number += 1;
-        read = row(card, lines, read, number, line(table, at, end));
+        read = row(rt, card, lines, read, number, line(table, at, end));
         at = end + 1;
     }
     read
 }
 
 // The table's records put on the card. `lines` gets the line that each stands on.
-pub fn read(table: &[u8], card: &mut [u8], lines: &mut [usize]) -> Table
+pub fn read(rt: &impl Print, table: &[u8], card: &mut [u8], lines: &mut [usize]) -> Table
     ensures { read_of result card.new ≡ page.read_table table.now card.old }
 {
     let begin = behind_mark(table);
     let end = line_feed(table, begin);
     if !is_header(line(table, begin, end)) {
-        named::plain(1, b"the header is not recipe,segment,kind,target,rate,hold");
+        named::plain(
+            rt,
+            1,
+            b"the header is not recipe,segment,kind,target,rate,hold",
+        );
         return Table {
             good: false,
             records: 0,
         };
     }
-    rows(table, end + 1, card, lines)
+    rows(rt, table, end + 1, card, lines)
 }

@@ -3,6 +3,7 @@
 
 use cipher::Schedule;
 use script::{reading, writing};
+use std::io::Input;
 
 // The schedule that a call leaves, if the script had all of the call.
 #[derive(Drop)]
@@ -12,11 +13,11 @@ pub struct Left {
 }
 
 // A schedule: cipher number, key length, round keys.
-pub fn keep() -> Left {
+pub fn keep(rt: &impl Input) -> Left {
     let mut head = [0u8; 2];
     let mut keys = [0u8; 288];
-    let first = reading::fill(&mut head);
-    let second = reading::fill(&mut keys);
+    let first = reading::fill(rt, &mut head);
+    let second = reading::fill(rt, &mut keys);
     let schedule = Schedule {
         round_keys: keys,
         cipher: head[0],
@@ -28,17 +29,17 @@ pub fn keep() -> Left {
     }
 }
 
-pub fn write(s: Schedule) {
+pub fn write(rt: &impl Print, s: Schedule) {
     let keys = s.round_keys;
-    writing::byte(s.cipher);
-    writing::byte(s.key_length);
-    writing::bytes(&keys);
+    writing::byte(rt, s.cipher);
+    writing::byte(rt, s.key_length);
+    writing::bytes(rt, &keys);
 }
 
-pub fn set_up() -> Left {
+pub fn set_up(rt: &(impl Input + Print)) -> Left {
     let mut key = [0u8; 8192];
-    let cipher = reading::eight();
-    let k = reading::string(&mut key);
+    let cipher = reading::eight(rt);
+    let k = reading::string(rt, &mut key);
     let n = k.len;
     if !(cipher.ok & k.ok) {
         let schedule = cipher::no_schedule();
@@ -48,18 +49,18 @@ pub fn set_up() -> Left {
         };
     }
     let made = cipher::set_up(cipher.value, &key[..n]);
-    writing::byte(made.answer);
-    write(made.schedule);
+    writing::byte(rt, made.answer);
+    write(rt, made.schedule);
     let schedule = made.schedule;
     Left { on: true, schedule }
 }
 
 // One block, enciphered or deciphered. Whether the script had all of the call.
-pub fn one_block(back: bool, schedule: Schedule) -> bool {
+pub fn one_block(rt: &(impl Input + Print), back: bool, schedule: Schedule) -> bool {
     let mut block = [0u8; 8192];
     let mut out = [0u8; 8192];
-    let b = reading::string(&mut block);
-    let o = reading::buffer(&mut out);
+    let b = reading::string(rt, &mut block);
+    let o = reading::buffer(rt, &mut out);
     let n = b.len;
     let room = o.len;
     if !(b.ok & o.ok) {
@@ -70,7 +71,7 @@ pub fn one_block(back: bool, schedule: Schedule) -> bool {
     } else {
         cipher::encipher_block(schedule, &block[..n], &mut out[..room])
     };
-    writing::byte(answer);
-    writing::front(&out, room);
+    writing::byte(rt, answer);
+    writing::front(rt, &out, room);
     true
 }

@@ -1,31 +1,28 @@
-// What the programs that show edge cases need: words, numbers and bytes in hex, and the front of some bytes.
+// What the programs that show edge cases need: words, numbers and bytes in hex, and the front of some bytes. A failed
+// write is passed over: what is missing of a program's output shows by itself.
 #![tactic(auto)]
 
-use libc::STDOUT_FILENO;
-
-pub fn say(words: &[u8]) {
-    io::write_all(STDOUT_FILENO, words);
+pub fn say(rt: &impl Print, words: &[u8]) {
+    let _ = rt.write_all(words);
 }
 
 // A number behind some words.
-pub fn number(words: &[u8], n: u64) {
-    say(words);
-    io::print_decimal(STDOUT_FILENO, n);
+pub fn number(rt: &impl Print, words: &[u8], n: u64) {
+    say(rt, words);
+    let _ = rt.print(n);
 }
 
-pub fn hex(bytes: &[u8]) {
-    let mut i: usize = 0;
-    while i < bytes.len() {
-        io::print_hex(STDOUT_FILENO, bytes[i] as u64, 2);
-        i += 1;
+pub fn hex(rt: &impl Print, bytes: &[u8]) {
+    for byte in bytes {
+        let _ = print!(rt; "{byte:02x}");
     }
 }
 
 // Bytes behind some words, to the end of the line.
-pub fn line(words: &[u8], all: &[u8]) {
-    say(words);
-    hex(all);
-    say(b"\n");
+pub fn line(rt: &impl Print, words: &[u8], all: &[u8]) {
+    say(rt, words);
+    hex(rt, all);
+    say(rt, b"\n");
 }
 
 // The first n bytes, or all of them.

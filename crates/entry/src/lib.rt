@@ -20,8 +20,7 @@ pub fn refusal(cipher: u64, direction: u64, key: &[u8], block: usize, room: usiz
 }
 
 // One block enciphered (direction 1) or deciphered (2) under a key, to the front of the output. 0 is done.
-#[unsafe(no_mangle)]
-pub extern "C" fn tlilcueyoh_block(
+pub fn tlilcueyoh_block(
     cipher: u64,
     direction: u64,
     key: &[u8],
@@ -45,8 +44,7 @@ pub extern "C" fn tlilcueyoh_block(
 }
 
 // The version of the call and its answers, for a host to compare with its header's.
-#[unsafe(no_mangle)]
-pub extern "C" fn tlilcueyoh_version() -> u64
+pub fn tlilcueyoh_version() -> u64
     ensures { TellsVersion result }
 {
     3

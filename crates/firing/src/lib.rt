@@ -71,7 +71,7 @@ pub fn plus(a: u32, b: u32) -> u32 {
 
 // A recipe gone through up to some segment: the seconds together, where the kiln is, the highest that it was; and of the
 // first segment whose time can't be said the cause, its fields and where the kiln was before it.
-#[derive(Drop)]
+#[derive(Clone, Copy)]
 pub struct Time {
     pub seconds: u32,
     pub now: u16,

@@ -21,29 +21,29 @@ const NEITHER: Two = Two {
     second: 0,
 };
 
-fn too_long(about: &[u8]) {
-    outcome::say(b"failed long ");
-    outcome::end(about);
+fn too_long(rt: &HostRuntime, about: &[u8]) {
+    outcome::say(rt, b"failed long ");
+    outcome::end(rt, about);
 }
 
 // The bytes that a text spells; where it spells none, the outcome says why.
-fn spelled(about: &[u8], text: &[u8], bytes: &mut [u8]) -> Laid
+fn spelled(rt: &HostRuntime, about: &[u8], text: &[u8], bytes: &mut [u8]) -> Laid
     ensures { Spelled text.now bytes.old result bytes.new }
 {
     let r = hex_digits::read(text, bytes);
     match r {
         Reading::Bytes(n) => Laid { ok: true, len: n },
         Reading::BadCharacter(place) => {
-            spot::tell(about, text, place);
+            spot::tell(rt, about, text, place);
             NOTHING
         }
         Reading::OddDigits(n) => {
-            outcome::say(b"failed digits ");
-            outcome::end_number(about, n as u64);
+            outcome::say(rt, b"failed digits ");
+            outcome::end_number(rt, about, n as u64);
             NOTHING
         }
         Reading::NoRoom(_) => {
-            too_long(about);
+            too_long(rt, about);
             NOTHING
         }
     }
@@ -51,52 +51,58 @@ fn spelled(about: &[u8], text: &[u8], bytes: &mut [u8]) -> Laid
 
 // The text of the file that an argument names, over a space of white space; one that leaves no place free may go on,
 // and is too long.
-fn text_of(argument: usize, about: &[u8], text: &mut [u8]) -> bool {
-    let filled = files::whole(argument, about, false, text);
+fn text_of(rt: &HostRuntime, argument: usize, about: &[u8], text: &mut [u8]) -> bool {
+    let filled = files::whole(rt, argument, about, false, text);
     if filled.len == text.len() {
-        too_long(about);
+        too_long(rt, about);
         return false;
     }
     filled.ok
 }
 
 // The bytes of all lines of a text, or of one of two.
-fn bytes_of(about: &[u8], text: &mut [u8], line: usize, bytes: &mut [u8]) -> Laid
+fn bytes_of(rt: &HostRuntime, about: &[u8], text: &mut [u8], line: usize, bytes: &mut [u8]) -> Laid
     ensures { IsPrefixLen result.len bytes.new }
 {
     let lines = line::keep(text, line);
     if (line != line::ALL) & (lines != 2) {
-        outcome::end_number(b"failed lines", lines as u64);
+        outcome::end_number(rt, b"failed lines", lines as u64);
         return NOTHING;
     }
-    spelled(about, text, bytes)
+    spelled(rt, about, text, bytes)
 }
 
 // The bytes of the file that an argument names, of all of its lines or of one of two.
-pub fn read(argument: usize, about: &[u8], line: usize, bytes: &mut [u8]) -> Laid
+pub fn read(rt: &HostRuntime, argument: usize, about: &[u8], line: usize, bytes: &mut [u8]) -> Laid
     ensures { IsPrefixLen result.len bytes.new }
 {
     let mut text = [b' '; 4096];
-    if !text_of(argument, about, &mut text) {
+    if !text_of(rt, argument, about, &mut text) {
         return NOTHING;
     }
-    bytes_of(about, &mut text, line, bytes)
+    bytes_of(rt, about, &mut text, line, bytes)
 }
 
 // The bytes of both lines of the file that an argument names.
-pub fn read_two(argument: usize, about: &[u8], first: &mut [u8], second: &mut [u8]) -> Two
+pub fn read_two(
+    rt: &HostRuntime,
+    argument: usize,
+    about: &[u8],
+    first: &mut [u8],
+    second: &mut [u8],
+) -> Two
     ensures { IsPrefixLen result.first first.new × IsPrefixLen result.second second.new }
 {
     let mut text = [b' '; 4096];
-    if !text_of(argument, about, &mut text) {
+    if !text_of(rt, argument, about, &mut text) {
         return NEITHER;
     }
     let mut again = text;
-    let one = bytes_of(about, &mut text, 1, first);
+    let one = bytes_of(rt, about, &mut text, 1, first);
     if !one.ok {
         return NEITHER;
     }
-    let two = bytes_of(about, &mut again, 2, second);
+    let two = bytes_of(rt, about, &mut again, 2, second);
     Two {
         ok: two.ok,
         first: one.len,

@@ -16,9 +16,9 @@ pub struct Pair {
 }
 
 // The schedule of the one key.
-pub fn one() -> Made {
+pub fn one(rt: &HostRuntime) -> Made {
     let mut key = [0u8; 2048];
-    let k = hex_file::read(arguments::KEY_FILE, b"keys", line::ALL, &mut key);
+    let k = hex_file::read(rt, arguments::KEY_FILE, b"keys", line::ALL, &mut key);
     if !k.ok {
         let schedule = cipher::no_schedule();
         return Made {
@@ -27,13 +27,18 @@ pub fn one() -> Made {
         };
     }
     let n = k.len;
-    schedule::of(arguments::cipher(arguments::CIPHER), &key[..n], b"key")
+    schedule::of(
+        rt,
+        arguments::cipher(rt, arguments::CIPHER),
+        &key[..n],
+        b"key",
+    )
 }
 
 // The schedules of two keys; where one is refused, or they are the same, the outcome says so.
-fn set_up(first: &[u8], second: &[u8]) -> Pair {
-    let cipher = arguments::cipher(arguments::CIPHER);
-    let one = schedule::of(cipher, first, b"key1");
+fn set_up(rt: &HostRuntime, first: &[u8], second: &[u8]) -> Pair {
+    let cipher = arguments::cipher(rt, arguments::CIPHER);
+    let one = schedule::of(rt, cipher, first, b"key1");
     let a = one.schedule;
     let mut pair = Pair {
         ok: false,
@@ -42,14 +47,14 @@ fn set_up(first: &[u8], second: &[u8]) -> Pair {
         len: 0,
     };
     if one.ok {
-        let two = schedule::of(cipher, second, b"key2");
+        let two = schedule::of(rt, cipher, second, b"key2");
         let b = two.schedule;
         pair.second = b;
         pair.ok = two.ok;
     }
     if pair.ok {
-        if check::same(first, second) {
-            outcome::end(b"failed same");
+        if first == second {
+            outcome::end(rt, b"failed same");
             pair.ok = false;
         }
     }
@@ -57,11 +62,11 @@ fn set_up(first: &[u8], second: &[u8]) -> Pair {
 }
 
 // The two keys. The second is laid at the front of the space.
-pub fn two(second: &mut [u8]) -> Pair
+pub fn two(rt: &HostRuntime, second: &mut [u8]) -> Pair
     ensures { IsPrefixLen result.len second.new }
 {
     let mut first = [0u8; 2048];
-    let read = hex_file::read_two(arguments::KEY_FILE, b"keys", &mut first, second);
+    let read = hex_file::read_two(rt, arguments::KEY_FILE, b"keys", &mut first, second);
     if !read.ok {
         let none = cipher::no_schedule();
         return Pair {
@@ -73,7 +78,7 @@ pub fn two(second: &mut [u8]) -> Pair
     }
     let n = read.first;
     let m = read.second;
-    let mut pair = set_up(&first[..n], &second[..m]);
+    let mut pair = set_up(rt, &first[..n], &second[..m]);
     pair.len = m;
     pair
 }

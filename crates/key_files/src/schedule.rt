@@ -10,16 +10,16 @@ pub struct Made {
 }
 
 // The schedule of a key for the cipher of a number; where there is none, the outcome says why.
-pub fn of(cipher: u64, key: &[u8], about: &[u8]) -> Made {
+pub fn of(rt: &HostRuntime, cipher: u64, key: &[u8], about: &[u8]) -> Made {
     let made = cipher::set_up(cipher, key);
     let schedule = made.schedule;
     if made.answer == refusals::DONE {
         return Made { ok: true, schedule };
     }
     if made.answer == refusals::UNKNOWN_CIPHER {
-        outcome::refused(made.answer, b"cipher", 0);
+        outcome::refused(rt, made.answer, b"cipher", 0);
     } else {
-        outcome::refused(made.answer, about, key.len() as u64);
+        outcome::refused(rt, made.answer, about, key.len() as u64);
     }
     Made {
         ok: false,

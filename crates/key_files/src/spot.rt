@@ -5,7 +5,7 @@ use recipe_words::outcome;
 
 // A character that is no hex digit: its code, and its line and place there, counted from 1. A line feed ends a line,
 // and any other byte takes one place.
-pub fn tell(about: &[u8], text: &[u8], at: usize)
+pub fn tell(rt: &HostRuntime, about: &[u8], text: &[u8], at: usize)
     requires { at < length text.now }
 {
     let mut line: u64 = 1;
@@ -21,8 +21,8 @@ pub fn tell(about: &[u8], text: &[u8], at: usize)
         i += 1;
     }
     let code = text[at] as u64;
-    outcome::say(b"failed character ");
-    outcome::say_number(about, code);
-    outcome::say_number(b"", line);
-    outcome::end_number(b"", place);
+    outcome::say(rt, b"failed character ");
+    outcome::say_number(rt, about, code);
+    outcome::say_number(rt, b"", line);
+    outcome::end_number(rt, b"", place);
 }

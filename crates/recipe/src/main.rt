@@ -12,35 +12,40 @@ const WHICH: usize = 4;
 const FIRST_FILE: usize = 5;
 
 // With the key of all lines of the key file, or of one of two.
-fn work(line: usize) {
+fn work(rt: &HostRuntime, line: usize) {
     let mut key = [0u8; 2048];
-    let k = hex_file::read(arguments::KEY_FILE, b"keys", line, &mut key);
+    let k = hex_file::read(rt, arguments::KEY_FILE, b"keys", line, &mut key);
     if !k.ok {
         return;
     }
     let mut first = [0u8; 2048];
-    let f = hex_file::read(FIRST_FILE, b"first", line::ALL, &mut first);
+    let f = hex_file::read(rt, FIRST_FILE, b"first", line::ALL, &mut first);
     if !f.ok {
         return;
     }
     let n = k.len;
     let m = f.len;
-    let made = schedule::of(arguments::cipher(arguments::CIPHER), &key[..n], b"key");
+    let made = schedule::of(
+        rt,
+        arguments::cipher(rt, arguments::CIPHER),
+        &key[..n],
+        b"key",
+    );
     if made.ok {
-        chain_files::start(made.schedule, &first[..m]);
+        chain_files::start(rt, made.schedule, &first[..m]);
     }
 }
 
-fn main() {
-    if os::arg_count() == 8 {
-        if arguments::is(WHICH, b"all") {
-            work(line::ALL);
+fn main(rt: HostRuntime) {
+    if arguments::are(&rt, 8) {
+        if arguments::is(&rt, WHICH, b"all") {
+            work(&rt, line::ALL);
             return;
         }
-        if arguments::is(WHICH, b"1") {
-            work(1);
+        if arguments::is(&rt, WHICH, b"1") {
+            work(&rt, 1);
             return;
         }
     }
-    outcome::end(b"usage");
+    outcome::end(&rt, b"usage");
 }

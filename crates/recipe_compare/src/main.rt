@@ -13,50 +13,50 @@ const SECOND: usize = 3;
 
 const OUT: usize = 4;
 
-fn show(first: &[u8], second: &[u8], list: &[u8]) {
-    let mut out = io::large_buffer();
+fn show(rt: &HostRuntime, first: &[u8], second: &[u8], list: &[u8]) {
+    let mut out = [0u8; 65536];
     let n = changes::show(&mut out, first, second, list);
-    let to = output::put(OUT, &out, n);
-    if to < 0 {
+    if output::put(rt, OUT, &out, n).is_none() {
         return;
     }
     if list.len() == 0 {
-        outcome::end(b"none");
+        outcome::end(rt, b"none");
     } else {
-        outcome::end(b"some");
+        outcome::end(rt, b"some");
     }
 }
 
-fn compare_two(first: &[u8], second: &[u8]) {
-    if !input::is_good(first, b"first") {
+fn compare_two(rt: &HostRuntime, first: &[u8], second: &[u8]) {
+    if !input::is_good(rt, first, b"first") {
         return;
     }
-    if !input::is_good(second, b"second") {
+    if !input::is_good(rt, second, b"second") {
         return;
     }
     let mut list = [0u8; 2048];
     let compared = card_compare::compare(first, second, &mut list);
     if compared.answer != refusals::DONE {
-        outcome::refused(compared.answer, b"card", 0);
+        outcome::refused(rt, compared.answer, b"card", 0);
         return;
     }
     show(
+        rt,
         first,
         second,
         front(&list, (compared.written % 4096) as usize),
     );
 }
 
-fn main() {
+fn main(rt: HostRuntime) {
     let mut one = [0u8; 4113];
     let mut two = [0u8; 4113];
-    let a = files::whole(FIRST, b"first", true, &mut one);
+    let a = files::whole(&rt, FIRST, b"first", true, &mut one);
     if !a.ok {
         return;
     }
-    let b = files::whole(SECOND, b"second", true, &mut two);
+    let b = files::whole(&rt, SECOND, b"second", true, &mut two);
     if !b.ok {
         return;
     }
-    compare_two(front(&one, a.len), front(&two, b.len));
+    compare_two(&rt, front(&one, a.len), front(&two, b.len));
 }

@@ -10,28 +10,29 @@ const RECIPE: usize = 3;
 
 const OUT: usize = 4;
 
-fn draw(card: &[u8], keys: &[u32], recipe: u64) {
+fn draw(rt: &HostRuntime, card: &[u8], keys: &[u32], recipe: u64) {
     let number = (recipe % 65536) as u16;
     let first = first_of(keys, number);
     if (recipe > 65535) | (first >= keys.len()) {
-        outcome::end_number(b"absent", recipe);
+        outcome::end_number(rt, b"absent", recipe);
         return;
     }
-    let mut out = io::large_buffer();
+    let mut out = [0u8; 65536];
     let n = card_curve::draw(&mut out, card, keys, first, number);
-    output::all(OUT, &out, n);
+    output::all(rt, OUT, &out, n);
 }
 
-fn curve_of(card: &[u8]) {
+fn curve_of(rt: &HostRuntime, card: &[u8]) {
     let mut keys = [0u32; 256];
     let judged = card::judge(card, &mut keys);
     if !judged.good {
-        outcome::refused(refusals::BAD_CARD, b"card", 0);
+        outcome::refused(rt, refusals::BAD_CARD, b"card", 0);
         return;
     }
-    let recipe = input::whole(RECIPE, b"RECIPE");
+    let recipe = input::whole(rt, RECIPE, b"RECIPE");
     if recipe.ok {
         draw(
+            rt,
             card,
             card_segments::front(&keys, judged.filled),
             recipe.value,
@@ -39,10 +40,10 @@ fn curve_of(card: &[u8]) {
     }
 }
 
-fn main() {
+fn main(rt: HostRuntime) {
     let mut space = [0u8; 4113];
-    let c = input::card(input::CARD, &mut space);
+    let c = input::card(&rt, input::CARD, &mut space);
     if c.ok {
-        curve_of(front(&space, c.len));
+        curve_of(&rt, front(&space, c.len));
     }
 }

@@ -15,51 +15,51 @@ use recipe_words::{arguments, outcome};
 use seal_files::{given, write};
 
 // Whether the command is this one and has so many words, the program's name among them.
-fn is(name: &[u8], words: usize) -> bool {
-    (os::arg_count() == words) & arguments::is(arguments::COMMAND, name)
+fn is(rt: &HostRuntime, name: &[u8], words: usize) -> bool {
+    arguments::are(rt, words) & arguments::is(rt, arguments::COMMAND, name)
 }
 
 // Seals a file under the one key, or checks its seal.
-fn with_one_key(checks: bool) {
-    let key = keys::one();
+fn with_one_key(rt: &HostRuntime, checks: bool) {
+    let key = keys::one(rt);
     if key.ok {
         if checks {
-            given::work(key.schedule);
+            given::work(rt, key.schedule);
         } else {
-            write::work(key.schedule, true);
+            write::work(rt, key.schedule, true);
         }
     }
 }
 
 // Marks or receives a card under two keys, or does no more than look at them.
-fn with_two_keys(marks: bool, receives: bool) {
+fn with_two_keys(rt: &HostRuntime, marks: bool, receives: bool) {
     let mut second = [0u8; 2048];
-    let pair = keys::two(&mut second);
+    let pair = keys::two(rt, &mut second);
     if !pair.ok {
         return;
     }
     if marks {
-        write::work(pair.second, false);
+        write::work(rt, pair.second, false);
     } else if receives {
         let n = pair.len;
-        received::work(pair.first, pair.second, &second[..n]);
+        received::work(rt, pair.first, pair.second, &second[..n]);
     } else {
-        outcome::end_number(b"done", 0);
+        outcome::end_number(rt, b"done", 0);
     }
 }
 
-fn main() {
-    if is(b"seal", 6) {
-        with_one_key(false);
-    } else if is(b"check", 6) {
-        with_one_key(true);
-    } else if is(b"keys", 4) {
-        with_two_keys(false, false);
-    } else if is(b"mark", 6) {
-        with_two_keys(true, false);
-    } else if is(b"receive", 5) {
-        with_two_keys(false, true);
+fn main(rt: HostRuntime) {
+    if is(&rt, b"seal", 6) {
+        with_one_key(&rt, false);
+    } else if is(&rt, b"check", 6) {
+        with_one_key(&rt, true);
+    } else if is(&rt, b"keys", 4) {
+        with_two_keys(&rt, false, false);
+    } else if is(&rt, b"mark", 6) {
+        with_two_keys(&rt, true, false);
+    } else if is(&rt, b"receive", 5) {
+        with_two_keys(&rt, false, true);
     } else {
-        outcome::end(b"usage");
+        outcome::end(&rt, b"usage");
     }
 }

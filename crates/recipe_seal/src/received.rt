@@ -8,31 +8,31 @@ const FILE: usize = 4;
 // A byte more than the longest sent card has.
 const SPACE: usize = 4129;
 
-fn wrong_length(n: usize) {
+fn wrong_length(rt: &HostRuntime, n: usize) {
     if n == SPACE {
-        outcome::end(b"long");
+        outcome::end(rt, b"long");
     } else {
-        outcome::end_number(b"length", n as u64);
+        outcome::end_number(rt, b"length", n as u64);
     }
 }
 
-fn tell(verdict: Verdict) {
+fn tell(rt: &HostRuntime, verdict: Verdict) {
     match verdict {
-        Verdict::Sealed => outcome::end(b"yes"),
-        Verdict::Length(n) => wrong_length(n),
-        Verdict::Lengthened(n) => outcome::end_number(b"lengthened", n as u64),
-        Verdict::Exchanged => outcome::end(b"exchanged"),
-        Verdict::OtherCipher(number) => outcome::end_number(b"other", number),
-        Verdict::NotSealed => outcome::end(b"no"),
+        Verdict::Sealed => outcome::end(rt, b"yes"),
+        Verdict::Length(n) => wrong_length(rt, n),
+        Verdict::Lengthened(n) => outcome::end_number(rt, b"lengthened", n as u64),
+        Verdict::Exchanged => outcome::end(rt, b"exchanged"),
+        Verdict::OtherCipher(number) => outcome::end_number(rt, b"other", number),
+        Verdict::NotSealed => outcome::end(rt, b"no"),
     }
 }
 
 // With the schedules of both keys, and the second key.
-pub fn work(first: Schedule, second: Schedule, key: &[u8]) {
+pub fn work(rt: &HostRuntime, first: Schedule, second: Schedule, key: &[u8]) {
     let mut space = [0u8; SPACE];
-    let got = files::whole(FILE, b"message", true, &mut space);
+    let got = files::whole(rt, FILE, b"message", true, &mut space);
     if got.ok {
         let n = got.len;
-        tell(sent_cards::judge(first, second, key, &space[..n]));
+        tell(rt, sent_cards::judge(first, second, key, &space[..n]));
     }
 }

@@ -12,14 +12,14 @@ mod table;
 use recipe_words::arguments::{COMMAND, is};
 use recipe_words::outcome;
 
-fn main() {
-    if is(COMMAND, b"show") {
-        show::show();
-    } else if is(COMMAND, b"table") {
-        table::write();
-    } else if is(COMMAND, b"find") {
-        find::find();
+fn main(rt: HostRuntime) {
+    if is(&rt, COMMAND, b"show") {
+        show::show(&rt);
+    } else if is(&rt, COMMAND, b"table") {
+        table::write(&rt);
+    } else if is(&rt, COMMAND, b"find") {
+        find::find(&rt);
     } else {
-        outcome::end(b"usage");
+        outcome::end(&rt, b"usage");
     }
 }

@@ -6,31 +6,30 @@ use wording::front;
 
 const OUT: usize = 3;
 
-fn show_bad(card: &[u8]) {
-    let mut out = io::large_buffer();
+fn show_bad(rt: &HostRuntime, card: &[u8]) {
+    let mut out = [0u8; 65536];
     let n = bad::show(&mut out, card);
-    let to = output::put(OUT, &out, n);
-    if to >= 0 {
-        outcome::refused(refusals::BAD_CARD, b"card", 0);
+    if output::put(rt, OUT, &out, n).is_some() {
+        outcome::refused(rt, refusals::BAD_CARD, b"card", 0);
     }
 }
 
-fn show_card(card: &[u8]) {
+fn show_card(rt: &HostRuntime, card: &[u8]) {
     let mut keys = [0u32; 256];
     let judged = card::judge(card, &mut keys);
     if !judged.good {
-        show_bad(card);
+        show_bad(rt, card);
         return;
     }
-    let mut out = io::large_buffer();
+    let mut out = [0u8; 65536];
     let n = good::show(&mut out, card, card_segments::front(&keys, judged.filled));
-    output::all(OUT, &out, n);
+    output::all(rt, OUT, &out, n);
 }
 
-pub fn show() {
+pub fn show(rt: &HostRuntime) {
     let mut space = [0u8; 4113];
-    let c = input::card(input::CARD, &mut space);
+    let c = input::card(rt, input::CARD, &mut space);
     if c.ok {
-        show_card(front(&space, c.len));
+        show_card(rt, front(&space, c.len));
     }
 }

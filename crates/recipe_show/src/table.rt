@@ -5,19 +5,19 @@ use wording::front;
 
 const OUT: usize = 3;
 
-fn table_of(card: &[u8]) {
-    if !input::is_good(card, b"card") {
+fn table_of(rt: &HostRuntime, card: &[u8]) {
+    if !input::is_good(rt, card, b"card") {
         return;
     }
-    let mut out = io::large_buffer();
+    let mut out = [0u8; 65536];
     let n = writing::write(&mut out, card);
-    output::all(OUT, &out, n);
+    output::all(rt, OUT, &out, n);
 }
 
-pub fn write() {
+pub fn write(rt: &HostRuntime) {
     let mut space = [0u8; 4113];
-    let c = input::card(input::CARD, &mut space);
+    let c = input::card(rt, input::CARD, &mut space);
     if c.ok {
-        table_of(front(&space, c.len));
+        table_of(rt, front(&space, c.len));
     }
 }

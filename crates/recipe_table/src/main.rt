@@ -10,12 +10,12 @@ mod table;
 use recipe_words::arguments::{COMMAND, is};
 use recipe_words::outcome;
 
-fn main() {
-    if is(COMMAND, b"from") {
-        table::read();
-    } else if is(COMMAND, b"put") {
-        put::put();
+fn main(rt: HostRuntime) {
+    if is(&rt, COMMAND, b"from") {
+        table::read(&rt);
+    } else if is(&rt, COMMAND, b"put") {
+        put::put(&rt);
     } else {
-        outcome::end(b"usage");
+        outcome::end(&rt, b"usage");
     }
 }

@@ -2,7 +2,7 @@
 use card_fields::laid;
 use card_files::{input, output};
 use cells::trimmed;
-use recipe_words::outcome;
+use recipe_words::{arguments, outcome};
 use record_words::record;
 use record_words::record::{Field, Record};
 use wording::front;
@@ -21,26 +21,26 @@ const HOLD: usize = 8;
 
 const OUT: usize = 9;
 
-fn number(argument: usize, field: u8) -> Field {
+fn number(rt: &HostRuntime, argument: usize, field: u8) -> Field {
     let mut space = [0u8; 64];
-    let n = os::arg(argument, &mut space);
-    record::number(0, field, trimmed(front(&space, n)))
+    let n = arguments::lay(rt, argument, &mut space);
+    record::number(rt, 0, field, trimmed(front(&space, n)))
 }
 
-fn kind(argument: usize) -> Field {
+fn kind(rt: &HostRuntime, argument: usize) -> Field {
     let mut space = [0u8; 64];
-    let n = os::arg(argument, &mut space);
-    record::kind(0, trimmed(front(&space, n)))
+    let n = arguments::lay(rt, argument, &mut space);
+    record::kind(rt, 0, trimmed(front(&space, n)))
 }
 
 // The record, of which a wrong field is named.
-fn fields() -> Record {
-    let recipe = number(RECIPE, card_rules::RECIPE);
-    let segment = number(SEGMENT, card_rules::SEGMENT);
-    let kind = kind(KIND);
-    let target = number(TARGET, card_rules::TARGET);
-    let rate = number(RATE, card_rules::RATE);
-    let hold = number(HOLD, card_rules::HOLD);
+fn fields(rt: &HostRuntime) -> Record {
+    let recipe = number(rt, RECIPE, card_rules::RECIPE);
+    let segment = number(rt, SEGMENT, card_rules::SEGMENT);
+    let kind = kind(rt, KIND);
+    let target = number(rt, TARGET, card_rules::TARGET);
+    let rate = number(rt, RATE, card_rules::RATE);
+    let hold = number(rt, HOLD, card_rules::HOLD);
     record::of(recipe, segment, kind, target, rate, hold)
 }
 
@@ -52,42 +52,42 @@ fn among(space: &mut [u8], n: usize, record: [u8; 16]) -> u8 {
     card::put(&mut space[0..n], &record)
 }
 
-fn end(space: &[u8], n: usize, answer: u8) {
+fn end(rt: &HostRuntime, space: &[u8], n: usize, answer: u8) {
     if answer == refusals::DONE {
-        output::all(OUT, space, n);
+        output::all(rt, OUT, space, n);
     } else {
-        outcome::refused(answer, b"card", 0);
+        outcome::refused(rt, answer, b"card", 0);
     }
 }
 
-fn onto(space: &mut [u8], n: usize, record: [u8; 16]) {
+fn onto(rt: &HostRuntime, space: &mut [u8], n: usize, record: [u8; 16]) {
     let answer = among(space, n, record);
     if answer != refusals::NO_SLOT {
-        end(space, n, answer);
+        end(rt, space, n, answer);
         return;
     }
     if n > 4080 {
-        end(space, n, answer);
+        end(rt, space, n, answer);
         return;
     }
     let longer = n + 16;
     let again = among(space, longer, record);
-    end(space, longer, again);
+    end(rt, space, longer, again);
 }
 
-pub fn put() {
+pub fn put(rt: &HostRuntime) {
     let mut space = [0u8; 4113];
-    let c = input::card(input::CARD, &mut space);
+    let c = input::card(rt, input::CARD, &mut space);
     if !c.ok {
         return;
     }
-    if !input::is_good(front(&space, c.len), b"card") {
+    if !input::is_good(rt, front(&space, c.len), b"card") {
         return;
     }
-    let record = fields();
+    let record = fields(rt);
     if !record.ok {
-        outcome::end(b"failed record");
+        outcome::end(rt, b"failed record");
         return;
     }
-    onto(&mut space, c.len, laid(record.fields));
+    onto(rt, &mut space, c.len, laid(record.fields));
 }

@@ -8,26 +8,26 @@ const TABLE: usize = 2;
 
 const OUT: usize = 3;
 
-fn onto_card(table: &[u8]) {
+fn onto_card(rt: &HostRuntime, table: &[u8]) {
     let mut card = [0u8; 4096];
     let mut lines = [0usize; 256];
-    let read = reading::read(table, &mut card, &mut lines);
+    let read = reading::read(rt, table, &mut card, &mut lines);
     if !read.good {
-        outcome::end(b"failed table");
+        outcome::end(rt, b"failed table");
         return;
     }
-    output::all(OUT, &card, read.records % 257 * 16);
+    output::all(rt, OUT, &card, read.records % 257 * 16);
 }
 
-pub fn read() {
-    let mut text = io::large_buffer();
-    let t = files::whole(TABLE, b"table", true, &mut text);
+pub fn read(rt: &HostRuntime) {
+    let mut text = [0u8; 65536];
+    let t = files::whole(rt, TABLE, b"table", true, &mut text);
     if !t.ok {
         return;
     }
     if t.len == 65536 {
-        outcome::end(b"failed long table");
+        outcome::end(rt, b"failed long table");
         return;
     }
-    onto_card(front(&text, t.len));
+    onto_card(rt, front(&text, t.len));
 }

@@ -1,9 +1,11 @@
 // The files that are read and written; where the system refuses one, the outcome says so.
 ghost use Rattle.io.specs.Counts.{IsPrefixLen};
 
-use crate::outcome;
-use libc::STDIN_FILENO;
+use crate::{arguments, outcome};
 use spelling::word;
+use std::fs::File;
+use std::io::{Error, ErrorKind, Read, Stdin, Write};
+use std::{io, str};
 
 // How many bytes were laid at the front of a space, if the file had them.
 #[derive(Drop)]
@@ -14,113 +16,148 @@ pub struct Laid {
 
 pub const NOTHING: Laid = Laid { ok: false, len: 0 };
 
-// The file that an argument names, open for reading; one that may be standard input is so where it is named `-`.
-// Negative where it can't be opened.
-pub fn input(argument: usize, about: &[u8], may_be_stdin: bool) -> i32 {
-    let mut space = io::buffer();
-    let n = os::arg(argument, &mut space);
-    if may_be_stdin & word::is(&space[..n], b"-") {
-        return STDIN_FILENO;
-    }
-    let fd = os::open_read(&space[..n]);
-    if fd < 0 {
-        outcome::failed(b"failed open ", about);
-    }
-    fd
-}
-
-fn not_written() {
-    outcome::failed(b"failed write ", b"out");
-}
-
-// The file to write, empty and open. Negative where it can't be opened.
-pub fn output(argument: usize) -> i32 {
-    let mut space = io::buffer();
-    let n = os::arg(argument, &mut space);
-    let fd = os::open_overwrite(&space[..n]);
-    if fd < 0 {
-        not_written();
-    }
-    fd
-}
-
-// What one read of a byte gives: 1, 0 at the end, or a negative number where it fails.
+// What is read: standard input, or a file, which is closed when it is dropped.
 #[derive(Drop)]
-struct Got {
-    count: isize,
-    byte: u8,
+pub enum Source {
+    Input(Stdin),
+    File(File),
 }
 
-fn one(fd: i32) -> Got {
-    let mut b = [0u8; 1];
-    let count = libc::read(fd, &mut b);
-    Got { count, byte: b[0] }
+impl Read for Source {
+    fn read(&mut self, bytes: &mut [u8]) -> io::Result<usize> {
+        match self {
+            Source::Input(input) => input.read(bytes),
+            Source::File(file) => file.read(bytes),
+        }
+    }
 }
 
-// The rest of a file, a byte at a time, so that a failed read and the end are told apart.
-fn fill(fd: i32, about: &[u8], space: &mut [u8]) -> Laid
+// The system's number for bytes that are no text. A path of std is text, in UTF-8.
+const NOT_TEXT: i32 = 84;
+
+fn path(bytes: &[u8]) -> io::Result<&str> {
+    match str::from_utf8(bytes) {
+        Ok(text) => Ok(text),
+        Err(_) => Err(Error::from_raw_os_error(NOT_TEXT)),
+    }
+}
+
+fn open(rt: &HostRuntime, name: &[u8]) -> io::Result<File> {
+    File::open(rt, path(name)?)
+}
+
+fn create(rt: &HostRuntime, name: &[u8]) -> io::Result<File> {
+    File::create(rt, path(name)?)
+}
+
+// The file that an argument names, open for reading; one that may be standard input is so where it is named `-`.
+// None where it can't be opened.
+pub fn input(
+    rt: &HostRuntime,
+    argument: usize,
+    about: &[u8],
+    may_be_stdin: bool,
+) -> Option<Source> {
+    let mut space = [0u8; 4096];
+    let n = arguments::lay(rt, argument, &mut space);
+    if may_be_stdin & word::is(&space[..n], b"-") {
+        return Some(Source::Input(rt.stdin()));
+    }
+    match open(rt, &space[..n]) {
+        Ok(file) => Some(Source::File(file)),
+        Err(error) => {
+            outcome::failed(rt, b"failed open ", about, &error);
+            None
+        }
+    }
+}
+
+fn not_written(rt: &HostRuntime, error: &Error) {
+    outcome::failed(rt, b"failed write ", b"out", error);
+}
+
+// The file to write, empty and open. None where it can't be opened.
+pub fn output(rt: &HostRuntime, argument: usize) -> Option<File> {
+    let mut space = [0u8; 4096];
+    let n = arguments::lay(rt, argument, &mut space);
+    match create(rt, &space[..n]) {
+        Ok(file) => Some(file),
+        Err(error) => {
+            not_written(rt, &error);
+            None
+        }
+    }
+}
+
+// The rest of a file, as far as the space goes.
+fn fill(rt: &HostRuntime, from: &mut Source, about: &[u8], space: &mut [u8]) -> Laid
     ensures { IsPrefixLen result.len space.new }
 {
     let mut n: usize = 0;
     while n < space.len() {
-        let got = one(fd);
-        if got.count < 0 {
-            outcome::failed(b"failed read ", about);
-            return NOTHING;
+        match from.read(&mut space[n..]) {
+            Ok(0) => return Laid { ok: true, len: n },
+            Ok(got) => n += got,
+            Err(error) => {
+                outcome::failed(rt, b"failed read ", about, &error);
+                return NOTHING;
+            }
         }
-        if got.count == 0 {
-            return Laid { ok: true, len: n };
-        }
-        space[n] = got.byte;
-        n += 1;
     }
     Laid { ok: true, len: n }
 }
 
 // The file that an argument names, as far as the space goes.
-pub fn whole(argument: usize, about: &[u8], may_be_stdin: bool, space: &mut [u8]) -> Laid
+pub fn whole(
+    rt: &HostRuntime,
+    argument: usize,
+    about: &[u8],
+    may_be_stdin: bool,
+    space: &mut [u8],
+) -> Laid
     ensures { IsPrefixLen result.len space.new }
 {
-    let fd = input(argument, about, may_be_stdin);
-    if fd < 0 {
-        return NOTHING;
+    match input(rt, argument, about, may_be_stdin) {
+        Some(mut from) => fill(rt, &mut from, about, space),
+        None => NOTHING,
     }
-    let filled = fill(fd, about, space);
-    libc::close(fd);
-    filled
 }
 
 // What one read of a message gives: no byte at its end.
-pub fn piece(from: i32, bytes: &mut [u8]) -> Laid
+pub fn piece(rt: &HostRuntime, from: &mut Source, bytes: &mut [u8]) -> Laid
     ensures { IsPrefixLen result.len bytes.new }
 {
-    let got = libc::read(from, bytes);
-    if got < 0 {
-        outcome::failed(b"failed read ", b"message");
-        return NOTHING;
+    match from.read(bytes) {
+        Ok(len) => Laid { ok: true, len },
+        Err(error) => {
+            outcome::failed(rt, b"failed read ", b"message", &error);
+            NOTHING
+        }
     }
-    Laid {
-        ok: true,
-        len: io::count(got, bytes),
+}
+
+fn write(to: &mut File, bytes: &[u8], n: usize) -> io::Result<()> {
+    if n > bytes.len() {
+        return Err(Error::from(ErrorKind::InvalidInput));
     }
+    to.write_all(&bytes[..n])
 }
 
 // The first n bytes written, if there are so many.
-pub fn put(to: i32, bytes: &[u8], n: usize) -> bool {
-    if n <= bytes.len() {
-        if io::write_all(to, &bytes[..n]) {
-            return true;
+pub fn put(rt: &HostRuntime, to: &mut File, bytes: &[u8], n: usize) -> bool {
+    match write(to, bytes, n) {
+        Ok(()) => true,
+        Err(error) => {
+            not_written(rt, &error);
+            false
         }
     }
-    not_written();
-    false
 }
 
 // The end of what is written, which is on its device before it is called done.
-pub fn end(to: i32, count: u64) {
-    if (libc::fsync(to) < 0) | (libc::close(to) < 0) {
-        not_written();
-        return;
+pub fn end(rt: &HostRuntime, to: &File, count: u64) {
+    match to.sync_all() {
+        Ok(()) => outcome::end_number(rt, b"done", count),
+        Err(error) => not_written(rt, &error),
     }
-    outcome::end_number(b"done", count);
 }

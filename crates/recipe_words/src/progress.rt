@@ -1,27 +1,26 @@
-// The bytes done, shown on standard error where that is a terminal, of messages over 64 KiB.
-use libc::STDERR_FILENO;
+// The bytes done, shown on standard error where that is a terminal, of messages over 64 KiB. A failed write of them is
+// passed over.
+use std::io::IsTerminal;
 
-fn is_shown(count: u64) -> bool {
+fn is_shown(rt: &HostRuntime, count: u64) -> bool {
     if count > 65536 {
-        return libc::isatty(STDERR_FILENO) == 1;
+        return rt.stderr().is_terminal();
     }
     false
 }
 
 // The count, after each 4,096 bytes.
-pub fn show(before: u64, count: u64) {
+pub fn show(rt: &HostRuntime, before: u64, count: u64) {
     if before / 4096 < count / 4096 {
-        if is_shown(count) {
-            io::write_all(STDERR_FILENO, b"\r");
-            io::print_decimal(STDERR_FILENO, count);
-            io::write_all(STDERR_FILENO, b" bytes");
+        if is_shown(rt, count) {
+            let _ = eprint!(rt; "\r{count} bytes");
         }
     }
 }
 
 // An empty line again.
-pub fn wipe(count: u64) {
-    if is_shown(count) {
-        io::write_all(STDERR_FILENO, b"\r\x1b[K");
+pub fn wipe(rt: &HostRuntime, count: u64) {
+    if is_shown(rt, count) {
+        let _ = eprint!(rt; "\r\x1b[K");
     }
 }

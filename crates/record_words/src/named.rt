@@ -1,5 +1,5 @@
 // What is said of a line, or of a record that stands in no line, where its number is 0. Every line of words ends what it says.
-use libc::STDOUT_FILENO;
+// A failed write of it is passed over.
 use wording::{fill, front, words};
 
 // No sentence is longer.
@@ -14,42 +14,44 @@ fn line(out: &mut [u8], number: usize) -> usize {
     fill(out, 0, b"line $: ", &[number as u64])
 }
 
-fn say(out: &mut [u8], at: usize) {
+fn say(rt: &impl Print, out: &mut [u8], at: usize) {
     let end = words(out, at, b"\n");
-    io::write_all(STDOUT_FILENO, front(out, end));
+    let _ = rt.write_all(front(out, end));
 }
 
 // A sentence with numbers in it, as wording::fill has it.
-pub fn sentence(number: usize, text: &[u8], numbers: &[u64]) {
+pub fn sentence(rt: &impl Print, number: usize, text: &[u8], numbers: &[u64]) {
     let mut out = space();
     let named = line(&mut out, number);
     let end = fill(&mut out, named, text, numbers);
-    say(&mut out, end);
+    say(rt, &mut out, end);
 }
 
-pub fn broken(number: usize, field: u8, value: u64) {
+pub fn broken(rt: &impl Print, number: usize, field: u8, value: u64) {
     let mut out = space();
     let at = line(&mut out, number);
     let end = card_rules::broken(&mut out, at, field, value);
-    say(&mut out, end);
+    say(rt, &mut out, end);
 }
 
-pub fn plain(number: usize, text: &[u8]) {
-    sentence(number, text, &[]);
+pub fn plain(rt: &impl Print, number: usize, text: &[u8]) {
+    sentence(rt, number, text, &[]);
 }
 
-pub fn no_number(number: usize, field: u8) {
+pub fn no_number(rt: &impl Print, number: usize, field: u8) {
     match field {
-        card_rules::RECIPE => plain(number, b"recipe is no whole number of 1 to 9 digits"),
-        card_rules::SEGMENT => plain(number, b"segment is no whole number of 1 to 9 digits"),
+        card_rules::RECIPE => plain(rt, number, b"recipe is no whole number of 1 to 9 digits"),
+        card_rules::SEGMENT => plain(rt, number, b"segment is no whole number of 1 to 9 digits"),
         card_rules::TARGET => plain(
+            rt,
             number,
             b"target is no number of 1 to 9 digits with at most one decimal place",
         ),
         card_rules::RATE => plain(
+            rt,
             number,
             b"rate is no number of 1 to 9 digits with at most one decimal place",
         ),
-        _ => plain(number, b"hold is no whole number of 1 to 9 digits"),
+        _ => plain(rt, number, b"hold is no whole number of 1 to 9 digits"),
     }
 }

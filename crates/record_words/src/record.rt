@@ -36,16 +36,16 @@ fn spelled(field: u8, text: &[u8]) -> Spelled
 }
 
 // A number of a line; where it is wrong, that is said.
-pub fn number(line: usize, field: u8, text: &[u8]) -> Field
+pub fn number(rt: &impl Print, line: usize, field: u8, text: &[u8]) -> Field
     ensures { result ≡ spec.number_in field text.now }
 {
     let n = spelled(field, text);
     if !n.ok {
-        named::no_number(line, field);
+        named::no_number(rt, line, field);
         return WRONG;
     }
     if !card_rules::may_be(field, n.value) {
-        named::broken(line, field, n.value);
+        named::broken(rt, line, field, n.value);
         return WRONG;
     }
     Field {
@@ -55,7 +55,7 @@ pub fn number(line: usize, field: u8, text: &[u8]) -> Field
 }
 
 // A kind's number; where there is none, that is said.
-pub fn kind(line: usize, text: &[u8]) -> Field
+pub fn kind(rt: &impl Print, line: usize, text: &[u8]) -> Field
     ensures { result ≡ spec.kind_of text.now }
 {
     if word::is(text, b"climb") {
@@ -67,7 +67,7 @@ pub fn kind(line: usize, text: &[u8]) -> Field
     if word::is(text, b"drop") {
         return right(card_fields::DROP);
     }
-    named::plain(line, b"kind is none of climb, hold and drop");
+    named::plain(rt, line, b"kind is none of climb, hold and drop");
     WRONG
 }
 

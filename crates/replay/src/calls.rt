@@ -1,16 +1,17 @@
 // The calls of a script, by number, and what is kept behind each.
 use crate::{Kept, Turn};
 use script::{reading, writing};
+use std::io::Input;
 
-fn c_entry() -> bool {
+fn c_entry(rt: &(impl Input + Print)) -> bool {
     let mut key = [0u8; 8192];
     let mut block = [0u8; 8192];
     let mut out = [0u8; 8192];
-    let cipher = reading::eight();
-    let direction = reading::eight();
-    let k = reading::string(&mut key);
-    let b = reading::string(&mut block);
-    let o = reading::buffer(&mut out);
+    let cipher = reading::eight(rt);
+    let direction = reading::eight(rt);
+    let k = reading::string(rt, &mut key);
+    let b = reading::string(rt, &mut block);
+    let o = reading::buffer(rt, &mut out);
     let n = k.len;
     let m = b.len;
     let room = o.len;
@@ -24,8 +25,8 @@ fn c_entry() -> bool {
         &block[..m],
         &mut out[..room],
     );
-    writing::byte((answer % 256) as u8);
-    writing::front(&out, room);
+    writing::byte(rt, (answer % 256) as u8);
+    writing::front(rt, &out, room);
     true
 }
 
@@ -65,28 +66,28 @@ fn with_seal(left: seal_calls::Left, kept: Kept) -> Turn {
 }
 
 // The call of a number.
-pub fn call(code: u64, kept: Kept) -> Turn {
+pub fn call(rt: &(impl Input + Print), code: u64, kept: Kept) -> Turn {
     match code {
-        1 => with_schedule(cipher_calls::set_up(), kept),
-        2 => same(cipher_calls::one_block(false, kept.schedule), kept),
-        3 => same(cipher_calls::one_block(true, kept.schedule), kept),
-        4 => with_stream(stream_calls::start(kept.schedule, kept.stream), kept),
-        5 => with_stream(stream_calls::piece(kept.stream), kept),
-        6 => with_stream(stream_calls::finish(kept.stream), kept),
-        7 => same(c_entry(), kept),
-        8 => with_schedule(cipher_calls::keep(), kept),
-        9 => with_stream(stream_calls::keep(), kept),
-        10 => same(card_calls::good(), kept),
-        11 => same(card_calls::find(), kept),
-        12 => same(card_calls::put(), kept),
-        13 => with_seal(seal_calls::start(kept.schedule), kept),
-        14 => with_seal(seal_calls::piece(kept.seal), kept),
-        15 => with_seal(seal_calls::write(kept.seal), kept),
-        16 => with_seal(seal_calls::check(kept.seal), kept),
-        17 => with_seal(seal_calls::keep(), kept),
-        18 => same(stream_calls::lay_down(kept.stream), kept),
-        19 => with_stream(stream_calls::take_up(kept.schedule, kept.stream), kept),
-        20 => same(card_calls::compare(), kept),
+        1 => with_schedule(cipher_calls::set_up(rt), kept),
+        2 => same(cipher_calls::one_block(rt, false, kept.schedule), kept),
+        3 => same(cipher_calls::one_block(rt, true, kept.schedule), kept),
+        4 => with_stream(stream_calls::start(rt, kept.schedule, kept.stream), kept),
+        5 => with_stream(stream_calls::piece(rt, kept.stream), kept),
+        6 => with_stream(stream_calls::finish(rt, kept.stream), kept),
+        7 => same(c_entry(rt), kept),
+        8 => with_schedule(cipher_calls::keep(rt), kept),
+        9 => with_stream(stream_calls::keep(rt), kept),
+        10 => same(card_calls::good(rt), kept),
+        11 => same(card_calls::find(rt), kept),
+        12 => same(card_calls::put(rt), kept),
+        13 => with_seal(seal_calls::start(rt, kept.schedule), kept),
+        14 => with_seal(seal_calls::piece(rt, kept.seal), kept),
+        15 => with_seal(seal_calls::write(rt, kept.seal), kept),
+        16 => with_seal(seal_calls::check(rt, kept.seal), kept),
+        17 => with_seal(seal_calls::keep(rt), kept),
+        18 => same(stream_calls::lay_down(rt, kept.stream), kept),
+        19 => with_stream(stream_calls::take_up(rt, kept.schedule, kept.stream), kept),
+        20 => same(card_calls::compare(rt), kept),
         _ => same(false, kept),
     }
 }

@@ -51,19 +51,19 @@ fn nothing_kept() -> Kept {
     }
 }
 
-fn main() {
+fn main(rt: HostRuntime) {
     let mut kept = nothing_kept();
     let mut turns: u64 = 18446744073709551615;
     while turns > 0 {
-        let code = reading::code();
+        let code = reading::code(&rt);
         if !code.ok {
             return;
         }
-        let turn = calls::call(code.value, kept);
+        let turn = calls::call(&rt, code.value, kept);
         let next = turn.kept;
         kept = next;
         if !turn.on {
-            writing::byte(255);
+            writing::byte(&rt, 255);
             return;
         }
         turns -= 1;

@@ -1,7 +1,7 @@
 // What stands in a script: numbers, strings and buffers.
 ghost use Rattle.io.specs.Counts.{IsPrefixLen};
 
-use libc::STDIN_FILENO;
+use std::io::{Input, Read};
 
 // A number that was read, if the script had it.
 #[derive(Drop)]
@@ -18,9 +18,8 @@ pub struct Laid {
 }
 
 // Fills the slice from the script.
-pub fn fill(bytes: &mut [u8]) -> bool {
-    let n = bytes.len();
-    io::read_full(STDIN_FILENO, bytes) == n
+pub fn fill(rt: &impl Input, bytes: &mut [u8]) -> bool {
+    rt.reader().read_exact(bytes).is_ok()
 }
 
 // The big-endian number of the slice, its eight last bytes.
@@ -35,27 +34,27 @@ fn value(bytes: &[u8]) -> u64 {
 }
 
 // A byte: the next call's number, among others.
-pub fn code() -> Number {
+pub fn code(rt: &impl Input) -> Number {
     let mut b = [0u8; 1];
-    let ok = fill(&mut b);
+    let ok = fill(rt, &mut b);
     Number {
         ok,
         value: value(&b),
     }
 }
 
-pub fn four() -> Number {
+pub fn four(rt: &impl Input) -> Number {
     let mut b = [0u8; 4];
-    let ok = fill(&mut b);
+    let ok = fill(rt, &mut b);
     Number {
         ok,
         value: value(&b),
     }
 }
 
-pub fn eight() -> Number {
+pub fn eight(rt: &impl Input) -> Number {
     let mut b = [0u8; 8];
-    let ok = fill(&mut b);
+    let ok = fill(rt, &mut b);
     Number {
         ok,
         value: value(&b),
@@ -63,10 +62,10 @@ pub fn eight() -> Number {
 }
 
 // A length that the space has room for.
-fn length(space: &[u8]) -> Laid
+fn length(rt: &impl Input, space: &[u8]) -> Laid
     ensures { IsPrefixLen result.len space.now }
 {
-    let n = four();
+    let n = four(rt);
     let len = (n.value % 4294967296) as usize;
     if n.ok {
         if len <= space.len() {
@@ -77,15 +76,15 @@ fn length(space: &[u8]) -> Laid
 }
 
 // A string: a length, then so many bytes.
-pub fn string(space: &mut [u8]) -> Laid
+pub fn string(rt: &impl Input, space: &mut [u8]) -> Laid
     ensures { IsPrefixLen result.len space.new }
 {
-    let l = length(space);
+    let l = length(rt, space);
     let n = l.len;
     if !l.ok {
         return Laid { ok: false, len: 0 };
     }
-    let ok = fill(&mut space[..n]);
+    let ok = fill(rt, &mut space[..n]);
     Laid { ok, len: n }
 }
 
@@ -98,15 +97,15 @@ fn set_all(bytes: &mut [u8], filler: u8) {
 }
 
 // A buffer: a length and the byte that each of its bytes is.
-pub fn buffer(space: &mut [u8]) -> Laid
+pub fn buffer(rt: &impl Input, space: &mut [u8]) -> Laid
     ensures { IsPrefixLen result.len space.new }
 {
-    let l = length(space);
+    let l = length(rt, space);
     let n = l.len;
     if !l.ok {
         return Laid { ok: false, len: 0 };
     }
-    let filler = code();
+    let filler = code(rt);
     set_all(&mut space[..n], (filler.value % 256) as u8);
     Laid {
         ok: filler.ok,

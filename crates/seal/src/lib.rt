@@ -11,7 +11,7 @@ ghost use Rattle.seal.specs.State.{fresh, zero_seal};
 ghost use Rattle.seal.specs.Calls.{started_as, fed_as, checked_as};
 ghost use Rattle.seal.specs.Promises.{StartsSeal, FeedsSeal, WritesSeal, ChecksSeal};
 
-#[derive(Drop)]
+#[derive(Clone, Copy)]
 pub struct Seal {
     pub schedule: Schedule,
     pub count: u64,
@@ -20,25 +20,25 @@ pub struct Seal {
     pub closed: bool,
 }
 
-#[derive(Drop)]
+#[derive(Clone, Copy)]
 pub struct Started {
     pub answer: u8,
     pub seal: Seal,
 }
 
-#[derive(Drop)]
+#[derive(Clone, Copy)]
 pub struct Fed {
     pub answer: u8,
     pub next: Seal,
 }
 
-#[derive(Drop)]
+#[derive(Clone, Copy)]
 pub struct Written {
     pub answer: u8,
     pub next: Seal,
 }
 
-#[derive(Drop)]
+#[derive(Clone, Copy)]
 pub struct Checked {
     pub answer: u8,
     pub yes: bool,

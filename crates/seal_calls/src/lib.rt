@@ -4,6 +4,7 @@
 use cipher::Schedule;
 use script::{reading, writing};
 use seal::Seal;
+use std::io::Input;
 
 // The seal that a call leaves, if the script had all of the call.
 #[derive(Drop)]
@@ -13,15 +14,15 @@ pub struct Left {
 }
 
 // A seal: schedule, count, chain, held bytes, closed.
-pub fn keep() -> Left {
-    let s = cipher_calls::keep();
-    let count = reading::eight();
+pub fn keep(rt: &impl Input) -> Left {
+    let s = cipher_calls::keep(rt);
+    let count = reading::eight(rt);
     let mut chain = [0u8; 16];
     let mut held = [0u8; 16];
     let mut closed = [0u8; 1];
-    let first = reading::fill(&mut chain);
-    let second = reading::fill(&mut held);
-    let third = reading::fill(&mut closed);
+    let first = reading::fill(rt, &mut chain);
+    let second = reading::fill(rt, &mut held);
+    let third = reading::fill(rt, &mut closed);
     let schedule = s.schedule;
     let seal = Seal {
         schedule: schedule,
@@ -37,14 +38,14 @@ pub fn keep() -> Left {
 }
 
 // What comes back, and is kept.
-fn returned(seal: Seal) -> Left {
+fn returned(rt: &impl Print, seal: Seal) -> Left {
     let chain = seal.chain;
     let held = seal.held;
-    cipher_calls::write(seal.schedule);
-    writing::eight(seal.count);
-    writing::bytes(&chain);
-    writing::bytes(&held);
-    writing::yes(seal.closed);
+    cipher_calls::write(rt, seal.schedule);
+    writing::eight(rt, seal.count);
+    writing::bytes(rt, &chain);
+    writing::bytes(rt, &held);
+    writing::yes(rt, seal.closed);
     Left { on: true, seal }
 }
 
@@ -52,46 +53,46 @@ fn broken(seal: Seal) -> Left {
     Left { on: false, seal }
 }
 
-pub fn start(schedule: Schedule) -> Left {
+pub fn start(rt: &impl Print, schedule: Schedule) -> Left {
     let begun = Seal::start(schedule);
-    writing::byte(begun.answer);
-    returned(begun.seal)
+    writing::byte(rt, begun.answer);
+    returned(rt, begun.seal)
 }
 
-pub fn piece(seal: Seal) -> Left {
+pub fn piece(rt: &(impl Input + Print), seal: Seal) -> Left {
     let mut bytes = [0u8; 8192];
-    let p = reading::string(&mut bytes);
+    let p = reading::string(rt, &mut bytes);
     let n = p.len;
     if !p.ok {
         return broken(seal);
     }
     let fed = seal.feed(&bytes[..n]);
-    writing::byte(fed.answer);
-    returned(fed.next)
+    writing::byte(rt, fed.answer);
+    returned(rt, fed.next)
 }
 
-pub fn write(seal: Seal) -> Left {
+pub fn write(rt: &(impl Input + Print), seal: Seal) -> Left {
     let mut out = [0u8; 8192];
-    let o = reading::buffer(&mut out);
+    let o = reading::buffer(rt, &mut out);
     let room = o.len;
     if !o.ok {
         return broken(seal);
     }
     let written = seal.write(&mut out[..room]);
-    writing::byte(written.answer);
-    writing::front(&out, room);
-    returned(written.next)
+    writing::byte(rt, written.answer);
+    writing::front(rt, &out, room);
+    returned(rt, written.next)
 }
 
-pub fn check(seal: Seal) -> Left {
+pub fn check(rt: &(impl Input + Print), seal: Seal) -> Left {
     let mut given = [0u8; 8192];
-    let g = reading::string(&mut given);
+    let g = reading::string(rt, &mut given);
     let n = g.len;
     if !g.ok {
         return broken(seal);
     }
     let checked = seal.check(&given[..n]);
-    writing::byte(checked.answer);
-    writing::yes(checked.yes);
-    returned(checked.next)
+    writing::byte(rt, checked.answer);
+    writing::yes(rt, checked.yes);
+    returned(rt, checked.next)
 }

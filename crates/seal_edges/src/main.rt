@@ -11,61 +11,61 @@ fn held(count: u64) -> u64 {
 }
 
 // A piece's answer, and how many bytes are held then.
-fn show_fed(answer: u8, count: u64) {
-    number(b": answer ", answer as u64);
-    number(b", holds ", held(count));
+fn show_fed(rt: &impl Print, answer: u8, count: u64) {
+    number(rt, b": answer ", answer as u64);
+    number(rt, b", holds ", held(count));
 }
 
-fn piece(call: &[u8], seal: Seal, bytes: &[u8]) -> Seal {
-    say(call);
+fn piece(rt: &impl Print, call: &[u8], seal: Seal, bytes: &[u8]) -> Seal {
+    say(rt, call);
     let f = seal.feed(bytes);
-    show_fed(f.answer, f.next.count);
-    say(b"\n");
+    show_fed(rt, f.answer, f.next.count);
+    say(rt, b"\n");
     f.next
 }
 
 // The seal into 16 bytes of room, and the next state.
-fn write(call: &[u8], seal: Seal) -> Seal {
+fn write(rt: &impl Print, call: &[u8], seal: Seal) -> Seal {
     let mut out = [238u8; 16];
     let w = seal.write(&mut out);
-    number(call, w.answer as u64);
-    line(b", output ", &out);
+    number(rt, call, w.answer as u64);
+    line(rt, b", output ", &out);
     w.next
 }
 
-fn write_in_15(call: &[u8], seal: Seal) -> Seal {
+fn write_in_15(rt: &impl Print, call: &[u8], seal: Seal) -> Seal {
     let mut out = [238u8; 15];
     let w = seal.write(&mut out);
-    number(call, w.answer as u64);
-    line(b", output ", &out);
+    number(rt, call, w.answer as u64);
+    line(rt, b", output ", &out);
     w.next
 }
 
-fn write_in_17(call: &[u8], seal: Seal) -> Seal {
+fn write_in_17(rt: &impl Print, call: &[u8], seal: Seal) -> Seal {
     let mut out = [238u8; 17];
     let w = seal.write(&mut out);
-    number(call, w.answer as u64);
-    line(b", output ", &out);
+    number(rt, call, w.answer as u64);
+    line(rt, b", output ", &out);
     w.next
 }
 
-fn check(call: &[u8], seal: Seal, given: &[u8]) -> Seal {
+fn check(rt: &impl Print, call: &[u8], seal: Seal, given: &[u8]) -> Seal {
     let c = seal.check(given);
-    number(call, c.answer as u64);
+    number(rt, call, c.answer as u64);
     if c.yes {
-        say(b", yes\n");
+        say(rt, b", yes\n");
     } else {
-        say(b", no\n");
+        say(rt, b", no\n");
     }
     c.next
 }
 
-fn at_once(fresh: Seal, message: &[u8]) {
+fn at_once(rt: &impl Print, fresh: Seal, message: &[u8]) {
     let f = fresh.feed(message);
-    number(b"  ", message.len() as u64);
-    say(b" bytes in one piece");
-    show_fed(f.answer, f.next.count);
-    write(b", then the seal: answer ", f.next);
+    number(rt, b"  ", message.len() as u64);
+    say(rt, b" bytes in one piece");
+    show_fed(rt, f.answer, f.next.count);
+    write(rt, b", then the seal: answer ", f.next);
 }
 
 fn in_pieces_of_1(fresh: Seal, message: &[u8]) -> Fed {
@@ -83,46 +83,47 @@ fn in_pieces_of_1(fresh: Seal, message: &[u8]) -> Fed {
     Fed { answer, next: seal }
 }
 
-fn by_bytes(fresh: Seal, message: &[u8]) {
+fn by_bytes(rt: &impl Print, fresh: Seal, message: &[u8]) {
     let f = in_pieces_of_1(fresh, message);
-    number(b"  ", message.len() as u64);
-    number(b" bytes in ", message.len() as u64);
-    say(b" pieces of 1");
-    show_fed(f.answer, f.next.count);
-    write(b", then the seal: answer ", f.next);
+    number(rt, b"  ", message.len() as u64);
+    number(rt, b" bytes in ", message.len() as u64);
+    say(rt, b" pieces of 1");
+    show_fed(rt, f.answer, f.next.count);
+    write(rt, b", then the seal: answer ", f.next);
 }
 
-fn both(fresh: Seal, message: &[u8]) {
-    at_once(fresh, message);
-    by_bytes(fresh, message);
+fn both(rt: &impl Print, fresh: Seal, message: &[u8]) {
+    at_once(rt, fresh, message);
+    by_bytes(rt, fresh, message);
 }
 
-fn lengths(fresh: Seal, message: &[u8]) {
-    both(fresh, front(message, 0));
-    both(fresh, front(message, 1));
-    both(fresh, front(message, 15));
-    both(fresh, front(message, 16));
-    both(fresh, front(message, 17));
-    both(fresh, front(message, 31));
-    both(fresh, front(message, 32));
-    both(fresh, message);
+fn lengths(rt: &impl Print, fresh: Seal, message: &[u8]) {
+    both(rt, fresh, front(message, 0));
+    both(rt, fresh, front(message, 1));
+    both(rt, fresh, front(message, 15));
+    both(rt, fresh, front(message, 16));
+    both(rt, fresh, front(message, 17));
+    both(rt, fresh, front(message, 31));
+    both(rt, fresh, front(message, 32));
+    both(rt, fresh, message);
 }
 
-fn empty_piece(fresh: Seal) {
+fn empty_piece(rt: &impl Print, fresh: Seal) {
     let sixteen = fresh.feed(b"the message of t");
     let none = [0u8; 0];
     let f = sixteen.next.feed(&none);
-    say(b"  16 bytes, then an empty piece");
-    show_fed(f.answer, f.next.count);
-    write(b", then the seal: answer ", f.next);
+    say(rt, b"  16 bytes, then an empty piece");
+    show_fed(rt, f.answer, f.next.count);
+    write(rt, b", then the seal: answer ", f.next);
 }
 
-fn rooms(ready: Seal, given: &[u8]) {
-    let short = write_in_15(b"  33 bytes, the seal into 15 of room: answer ", ready);
-    let closed = write_in_17(b"  then into 17 of room: answer ", short);
-    write(b"  then once more: answer ", closed);
-    piece(b"  then a piece of 1", closed, b"t");
+fn rooms(rt: &impl Print, ready: Seal, given: &[u8]) {
+    let short = write_in_15(rt, b"  33 bytes, the seal into 15 of room: answer ", ready);
+    let closed = write_in_17(rt, b"  then into 17 of room: answer ", short);
+    write(rt, b"  then once more: answer ", closed);
+    piece(rt, b"  then a piece of 1", closed, b"t");
     check(
+        rt,
         b"  then a check of the seal: answer ",
         closed,
         front(given, 16),
@@ -130,37 +131,47 @@ fn rooms(ready: Seal, given: &[u8]) {
 }
 
 // The given bytes are a seal and a byte behind it.
-fn checks(ready: Seal, given: &[u8]) {
+fn checks(rt: &impl Print, ready: Seal, given: &[u8]) {
     check(
+        rt,
         b"  33 bytes, a check of 0 bytes: answer ",
         ready,
         front(given, 0),
     );
     check(
+        rt,
         b"  33 bytes, a check of 15 bytes: answer ",
         ready,
         front(given, 15),
     );
     let yes = check(
+        rt,
         b"  33 bytes, a check of 16 bytes: answer ",
         ready,
         front(given, 16),
     );
-    check(b"  then once more: answer ", yes, front(given, 16));
+    check(rt, b"  then once more: answer ", yes, front(given, 16));
     check(
+        rt,
         b"  33 bytes, a check of 17 bytes: answer ",
         ready,
         front(given, 17),
     );
 }
 
-fn checks_of_another(ready: Seal, given: &[u8], other: &[u8]) {
+fn checks_of_another(rt: &impl Print, ready: Seal, given: &[u8], other: &[u8]) {
     let no = check(
+        rt,
         b"  33 bytes, a check of 16 bytes with the last bit changed: answer ",
         ready,
         front(other, 16),
     );
-    check(b"  then the right 16 bytes: answer ", no, front(given, 16));
+    check(
+        rt,
+        b"  then the right 16 bytes: answer ",
+        no,
+        front(given, 16),
+    );
 }
 
 // The seal, and a byte behind it.
@@ -176,12 +187,12 @@ fn last_bit_changed(given: [u8; 17]) -> [u8; 17] {
     other
 }
 
-fn ended(ready: Seal) {
+fn ended(rt: &impl Print, ready: Seal) {
     let given = given_bytes(ready);
-    rooms(ready, &given);
-    checks(ready, &given);
+    rooms(rt, ready, &given);
+    checks(rt, ready, &given);
     let other = last_bit_changed(given);
-    checks_of_another(ready, &given, &other);
+    checks_of_another(rt, ready, &given, &other);
 }
 
 fn million() -> [u8; 1048576] {
@@ -189,54 +200,55 @@ fn million() -> [u8; 1048576] {
 }
 
 // All that a seal takes, in one piece.
-fn fill(fresh: Seal) -> Seal {
+fn fill(rt: &impl Print, fresh: Seal) -> Seal {
     let bytes = million();
-    piece(b"  1048576 bytes at once", fresh, &bytes)
+    piece(rt, b"  1048576 bytes at once", fresh, &bytes)
 }
 
-fn limit(fresh: Seal) {
-    let full = fill(fresh);
+fn limit(rt: &impl Print, fresh: Seal) {
+    let full = fill(rt, fresh);
     let one = [3u8; 1];
-    piece(b"  then 1 more", full, &one);
+    piece(rt, b"  then 1 more", full, &one);
     let none = [0u8; 0];
-    let same = piece(b"  then an empty piece", full, &none);
-    write(b"  then the seal: answer ", same);
+    let same = piece(rt, b"  then an empty piece", full, &none);
+    write(rt, b"  then the seal: answer ", same);
 }
 
-fn start(call: &[u8], schedule: Schedule) -> Seal {
+fn start(rt: &impl Print, call: &[u8], schedule: Schedule) -> Seal {
     let begun = Seal::start(schedule);
-    number(call, begun.answer as u64);
-    say(b"\n");
+    number(rt, call, begun.answer as u64);
+    say(rt, b"\n");
     begun.seal
 }
 
 // A refused schedule's start, and a piece behind it.
-fn refused(cipher: u64) {
+fn refused(rt: &impl Print, cipher: u64) {
     let made = cipher::set_up(cipher, b"0123456789abcde");
     let none = start(
+        rt,
         b"  a start under a refused schedule: answer ",
         made.schedule,
     );
-    piece(b"  then a piece of 1", none, b"t");
+    piece(rt, b"  then a piece of 1", none, b"t");
 }
 
-fn cases(cipher: u64) {
-    number(b"cipher ", cipher);
-    say(b"\n");
-    refused(cipher);
+fn cases(rt: &impl Print, cipher: u64) {
+    number(rt, b"cipher ", cipher);
+    say(rt, b"\n");
+    refused(rt, cipher);
     let made = cipher::set_up(cipher, b"0123456789abcdef");
-    let fresh = start(b"  a start: answer ", made.schedule);
+    let fresh = start(rt, b"  a start: answer ", made.schedule);
     let message = *b"the message of thirty-three bytes";
-    lengths(fresh, &message);
-    empty_piece(fresh);
+    lengths(rt, fresh, &message);
+    empty_piece(rt, fresh);
     let ready = fresh.feed(&message);
-    ended(ready.next);
-    limit(fresh);
+    ended(rt, ready.next);
+    limit(rt, fresh);
 }
 
-fn main() {
-    cases(1);
-    cases(2);
-    cases(3);
-    cases(4);
+fn main(rt: HostRuntime) {
+    cases(&rt, 1);
+    cases(&rt, 2);
+    cases(&rt, 3);
+    cases(&rt, 4);
 }

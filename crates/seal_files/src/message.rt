@@ -1,5 +1,6 @@
 // The message of a seal: read and fed piece by piece.
 use cipher::Schedule;
+use recipe_words::files::Source;
 use recipe_words::{files, outcome, progress};
 use seal::Seal;
 
@@ -20,20 +21,20 @@ fn stop(ok: bool, seal: Seal) -> Turn {
 }
 
 // What one read gives, fed.
-fn read_piece(from: i32, seal: Seal) -> Turn {
-    let mut bytes = io::buffer();
-    let got = files::piece(from, &mut bytes);
+fn read_piece(rt: &HostRuntime, from: &mut Source, seal: Seal) -> Turn {
+    let mut bytes = [0u8; 4096];
+    let got = files::piece(rt, from, &mut bytes);
     let n = got.len;
     if n == 0 {
         return stop(got.ok, seal);
     }
     let fed = seal.feed(&bytes[..n]);
     if fed.answer != refusals::DONE {
-        outcome::refused(fed.answer, b"message", Seal::LIMIT);
+        outcome::refused(rt, fed.answer, b"message", Seal::LIMIT);
         return stop(false, seal);
     }
     let next = fed.next;
-    progress::show(seal.count, next.count);
+    progress::show(rt, seal.count, next.count);
     Turn {
         on: true,
         ok: true,
@@ -42,15 +43,15 @@ fn read_piece(from: i32, seal: Seal) -> Turn {
 }
 
 // Each turn but the last takes a byte or more, and the seal takes LIMIT of them, so the turns suffice.
-fn pieces(from: i32, begun: Seal) -> Turn {
+fn pieces(rt: &HostRuntime, from: &mut Source, begun: Seal) -> Turn {
     let mut seal = begun;
     let mut turns = Seal::LIMIT + 1;
     while turns > 0 {
-        let turn = read_piece(from, seal);
+        let turn = read_piece(rt, from, seal);
         let next = turn.seal;
         seal = next;
         if !turn.on {
-            progress::wipe(seal.count);
+            progress::wipe(rt, seal.count);
             return turn;
         }
         turns -= 1;
@@ -59,11 +60,11 @@ fn pieces(from: i32, begun: Seal) -> Turn {
 }
 
 // The seal of all of a message, neither written nor checked yet.
-pub fn feed(from: i32, schedule: Schedule) -> Turn {
+pub fn feed(rt: &HostRuntime, from: &mut Source, schedule: Schedule) -> Turn {
     let begun = Seal::start(schedule);
     if begun.answer != refusals::DONE {
-        outcome::refused(begun.answer, b"key", 0);
+        outcome::refused(rt, begun.answer, b"key", 0);
         return stop(false, begun.seal);
     }
-    pieces(from, begun.seal)
+    pieces(rt, from, begun.seal)
 }

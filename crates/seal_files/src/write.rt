@@ -3,6 +3,7 @@ use crate::message;
 use cipher::Schedule;
 use recipe_words::{files, outcome};
 use seal::Seal;
+use std::fs::File;
 
 const MESSAGE: usize = 4;
 
@@ -28,35 +29,33 @@ fn spelled(bytes: [u8; 16]) -> [u8; 33] {
     text
 }
 
-fn put(to: i32, bytes: [u8; 16], in_hex: bool) -> bool {
+fn put(rt: &HostRuntime, to: &mut File, bytes: [u8; 16], in_hex: bool) -> bool {
     if in_hex {
         let text = spelled(bytes);
-        return files::put(to, &text, 33);
+        return files::put(rt, to, &text, 33);
     }
-    files::put(to, &bytes, 16)
+    files::put(rt, to, &bytes, 16)
 }
 
-fn end(to: i32, seal: Seal, in_hex: bool) {
+fn end(rt: &HostRuntime, to: &mut File, seal: Seal, in_hex: bool) {
     let mut bytes = [0u8; 16];
     let written = seal.write(&mut bytes);
     if written.answer != refusals::DONE {
-        outcome::refused(written.answer, b"message", seal.count);
-    } else if put(to, bytes, in_hex) {
-        files::end(to, seal.count);
+        outcome::refused(rt, written.answer, b"message", seal.count);
+    } else if put(rt, to, bytes, in_hex) {
+        files::end(rt, to, seal.count);
     }
 }
 
-pub fn work(schedule: Schedule, in_hex: bool) {
-    let from = files::input(MESSAGE, b"message", true);
-    if from < 0 {
+pub fn work(rt: &HostRuntime, schedule: Schedule, in_hex: bool) {
+    let Some(mut from) = files::input(rt, MESSAGE, b"message", true) else {
         return;
-    }
-    let to = files::output(OUTPUT);
-    if to < 0 {
+    };
+    let Some(mut to) = files::output(rt, OUTPUT) else {
         return;
-    }
-    let fed = message::feed(from, schedule);
+    };
+    let fed = message::feed(rt, &mut from, schedule);
     if fed.ok {
-        end(to, fed.seal, in_hex);
+        end(rt, &mut to, fed.seal, in_hex);
     }
 }

@@ -16,13 +16,7 @@ fn opened(cipher: u64, key: &[u8]) -> Seal
 }
 
 // The input as one piece of a fresh seal, which is then written to the front of the output.
-#[unsafe(no_mangle)]
-pub extern "C" fn tlilcueyoh_speed_seal(
-    cipher: u64,
-    key: &[u8],
-    input: &[u8],
-    output: &mut [u8],
-) -> u64
+pub fn tlilcueyoh_speed_seal(cipher: u64, key: &[u8], input: &[u8], output: &mut [u8]) -> u64
     ensures { SealsMessage cipher key.now input.now output.old result output.new }
 {
     let seal = opened(cipher, key);
@@ -36,13 +30,7 @@ pub extern "C" fn tlilcueyoh_speed_seal(
 }
 
 // The same in pieces of one byte, until one is refused.
-#[unsafe(no_mangle)]
-pub extern "C" fn tlilcueyoh_speed_seal_bytes(
-    cipher: u64,
-    key: &[u8],
-    input: &[u8],
-    output: &mut [u8],
-) -> u64
+pub fn tlilcueyoh_speed_seal_bytes(cipher: u64, key: &[u8], input: &[u8], output: &mut [u8]) -> u64
     ensures { SealsBytes cipher key.now input.now output.old result output.new }
 {
     let mut seal = opened(cipher, key);

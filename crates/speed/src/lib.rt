@@ -9,8 +9,7 @@ use cipher_blocks::alone;
 use stream::Stream;
 
 // The blocks of the input, each by itself, in a direction.
-#[unsafe(no_mangle)]
-pub extern "C" fn tlilcueyoh_speed_blocks(
+pub fn tlilcueyoh_speed_blocks(
     cipher: u64,
     direction: u64,
     key: &[u8],
@@ -49,8 +48,7 @@ fn opened(cipher: u64, direction: u64, key: &[u8], first: &[u8]) -> Stream
 }
 
 // The input as one piece of a fresh stream.
-#[unsafe(no_mangle)]
-pub extern "C" fn tlilcueyoh_speed_cbc(
+pub fn tlilcueyoh_speed_cbc(
     cipher: u64,
     direction: u64,
     key: &[u8],
@@ -66,8 +64,7 @@ pub extern "C" fn tlilcueyoh_speed_cbc(
 }
 
 // The input in pieces of one byte, all to the front of the output, until one is refused.
-#[unsafe(no_mangle)]
-pub extern "C" fn tlilcueyoh_speed_bytes(
+pub fn tlilcueyoh_speed_bytes(
     cipher: u64,
     direction: u64,
     key: &[u8],

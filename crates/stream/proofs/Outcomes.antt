@@ -2,7 +2,7 @@
 use mathlib.Core.Path.{◌≡◌, refl}
 use mathlib.Core.Bool.{Bool, true, false, not, true≢false}
 use mathlib.Core.List.{List}
-use Prim.Native.Nat.{ℕ, ◌+◌, ◌-◌, ◌*◌, ◌≤◌, ◌<◌}
+use Prim.Native.Nat.{ℕ, ◌+◌, ◌*◌, ◌≤◌, ◌<◌}
 use native.Mathlib.Omega.{arith}
 use lib.Dec.{ltb, eqb}
 use lib.ListN.{length, take, drop}
@@ -15,7 +15,7 @@ use Rattle.refusals.proofs.Clear.{start_clear, piece_clear}
 use Rattle.cipher_numbers.specs.Ciphers.{is_direction}
 use Rattle.cipher.specs.Schedule.{bad, enciphered, deciphered}
 use Rattle.cipher.specs.declared.Schedule.{Schedule}
-use Rattle.cbc.specs.Cbc.{chain, Chained}
+use Rattle.cbc.specs.Cbc.{Chained}
 use Rattle.pieces.specs.Pieces.{limit, held15}
 use Rattle.stream.specs.State.{stream_of, fresh, held_number, at_hand, bad_state, zero_stream}
 use Rattle.stream.specs.Calls.{start_refusal, started_as, start, made, piece_refusal, fed, fed_as, fed_bytes, feed, feed_out, finish_refusal, closed_stream, finished_as, finish}

@@ -11,7 +11,7 @@ ghost use Rattle.stream.specs.State.{fresh, zero_stream};
 ghost use Rattle.stream.specs.Calls.{started_as, fed_as};
 ghost use Rattle.stream.specs.Promises.{Starts, Feeds, Finishes};
 
-#[derive(Drop)]
+#[derive(Clone, Copy)]
 pub struct Stream {
     pub schedule: Schedule,
     pub direction: u8,
@@ -21,20 +21,20 @@ pub struct Stream {
     pub closed: bool,
 }
 
-#[derive(Drop)]
+#[derive(Clone, Copy)]
 pub struct Started {
     pub answer: u8,
     pub stream: Stream,
 }
 
-#[derive(Drop)]
+#[derive(Clone, Copy)]
 pub struct Fed {
     pub answer: u8,
     pub written: u64,
     pub next: Stream,
 }
 
-#[derive(Drop)]
+#[derive(Clone, Copy)]
 pub struct Finished {
     pub answer: u8,
     pub next: Stream,

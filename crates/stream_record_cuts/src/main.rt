@@ -6,14 +6,14 @@ use edge_words::{front, hex, line, number, say};
 use stream::Stream;
 
 // Where in the message it is cut: at one place, or at every one.
-#[derive(Drop)]
+#[derive(Clone, Copy)]
 struct Stops {
     every: bool,
     place: usize,
 }
 
 // A message on its way: whether every call was done, the stream, and how many bytes are written.
-#[derive(Drop)]
+#[derive(Clone, Copy)]
 struct Run {
     done: bool,
     stream: Stream,
@@ -106,11 +106,11 @@ fn agree(a: Run, b: Run) -> bool {
     let mut of_b = [1u8; 40];
     stream_record::lay_down(a.stream, &mut of_a);
     stream_record::lay_down(b.stream, &mut of_b);
-    a.done & b.done & (a.written == b.written) & check::same(&of_a, &of_b)
+    a.done & b.done & (a.written == b.written) & (of_a == of_b)
 }
 
 // How many runs there were, and how many of them differed from the uncut one.
-#[derive(Drop)]
+#[derive(Clone, Copy)]
 struct Tally {
     runs: u64,
     differ: u64,
@@ -128,7 +128,7 @@ fn counted(t: Tally, differs: bool) -> Tally {
 fn differs(fresh: Stream, key: &[u8], message: &[u8], c: Stops, a: Run, whole: &[u8]) -> bool {
     let mut joined = [238u8; 112];
     let b = with_cuts(fresh, key, message, c, &mut joined);
-    !(agree(a, b) & check::same(whole, &joined))
+    !(agree(a, b) & (whole == &joined[..]))
 }
 
 // One cut, at the place.
@@ -191,58 +191,58 @@ fn message() -> [u8; 100] {
     m
 }
 
-fn tell(t: Tally, words: &[u8]) {
-    number(b"", t.runs);
-    say(words);
-    number(b", ", t.differ);
-    say(b" differ; ");
+fn tell(rt: &impl Print, t: Tally, words: &[u8]) {
+    number(rt, b"", t.runs);
+    say(rt, words);
+    number(rt, b", ", t.differ);
+    say(rt, b" differ; ");
 }
 
 // The record behind the whole message, and the last block of its answer.
-fn last(fresh: Stream, message: &[u8]) {
+fn last(rt: &impl Print, fresh: Stream, message: &[u8]) {
     let mut out = [238u8; 112];
     let mut record = [0u8; 40];
     let r = uncut(fresh, message, &mut out);
     stream_record::lay_down(r.stream, &mut record);
-    number(b"after ", message.len() as u64);
-    say(b" bytes the record is ");
-    hex(&record);
-    line(b", the last block written ", &out[80..96]);
+    number(rt, b"after ", message.len() as u64);
+    say(rt, b" bytes the record is ");
+    hex(rt, &record);
+    line(rt, b", the last block written ", &out[80..96]);
 }
 
-fn tell_all(fresh: Stream, key: &[u8], message: &[u8]) {
+fn tell_all(rt: &impl Print, fresh: Stream, key: &[u8], message: &[u8]) {
     let once = of_all_lengths(fresh, key, message, false);
-    tell(once, b" runs with one cut");
+    tell(rt, once, b" runs with one cut");
     let always = of_all_lengths(fresh, key, message, true);
-    tell(always, b" runs with a cut at every byte");
-    last(fresh, message);
+    tell(rt, always, b" runs with a cut at every byte");
+    last(rt, fresh, message);
 }
 
-fn show(cipher: u64, key: &[u8], direction: u64) {
-    number(b"cipher ", cipher);
-    number(b", a key of ", key.len() as u64);
-    number(b" bytes, direction ", direction);
-    say(b": ");
+fn show(rt: &impl Print, cipher: u64, key: &[u8], direction: u64) {
+    number(rt, b"cipher ", cipher);
+    number(rt, b", a key of ", key.len() as u64);
+    number(rt, b" bytes, direction ", direction);
+    say(rt, b": ");
     let made = cipher::set_up(cipher, key);
     let started = Stream::start(made.schedule, direction, b"the first block.");
     let m = message();
-    tell_all(started.stream, key, &m);
+    tell_all(rt, started.stream, key, &m);
 }
 
-fn both_ways(cipher: u64, key: &[u8]) {
-    show(cipher, key, 1);
-    show(cipher, key, 2);
+fn both_ways(rt: &impl Print, cipher: u64, key: &[u8]) {
+    show(rt, cipher, key, 1);
+    show(rt, cipher, key, 2);
 }
 
-fn three_lengths(cipher: u64) {
-    both_ways(cipher, b"0123456789abcdef");
-    both_ways(cipher, b"0123456789abcdefghijklmn");
-    both_ways(cipher, b"0123456789abcdefghijklmnopqrstuv");
+fn three_lengths(rt: &impl Print, cipher: u64) {
+    both_ways(rt, cipher, b"0123456789abcdef");
+    both_ways(rt, cipher, b"0123456789abcdefghijklmn");
+    both_ways(rt, cipher, b"0123456789abcdefghijklmnopqrstuv");
 }
 
-fn main() {
-    three_lengths(1);
-    three_lengths(2);
-    both_ways(3, b"0123456789abcdef");
-    both_ways(4, b"0123456789abcdef");
+fn main(rt: HostRuntime) {
+    three_lengths(&rt, 1);
+    three_lengths(&rt, 2);
+    both_ways(&rt, 3, b"0123456789abcdef");
+    both_ways(&rt, 4, b"0123456789abcdef");
 }

@@ -6,85 +6,89 @@ use edge_words::{front, hex, line, number, say};
 use stream::Stream;
 
 // ---- the calls, shown
-fn laid(answer: u8, out: &[u8]) {
-    number(b": answer ", answer as u64);
-    line(b", output ", out);
+fn laid(rt: &impl Print, answer: u8, out: &[u8]) {
+    number(rt, b": answer ", answer as u64);
+    line(rt, b", output ", out);
 }
 
 // Laid down in 40 bytes of room. The record.
-fn lay(call: &[u8], stream: Stream) -> [u8; 40] {
+fn lay(rt: &impl Print, call: &[u8], stream: Stream) -> [u8; 40] {
     let mut out = [238u8; 40];
-    say(call);
-    laid(stream_record::lay_down(stream, &mut out), &out);
+    say(rt, call);
+    laid(rt, stream_record::lay_down(stream, &mut out), &out);
     out
 }
 
-fn lay_in_39(call: &[u8], stream: Stream) {
+fn lay_in_39(rt: &impl Print, call: &[u8], stream: Stream) {
     let mut out = [238u8; 39];
-    say(call);
-    laid(stream_record::lay_down(stream, &mut out), &out);
+    say(rt, call);
+    laid(rt, stream_record::lay_down(stream, &mut out), &out);
 }
 
-fn lay_in_41(call: &[u8], stream: Stream) {
+fn lay_in_41(rt: &impl Print, call: &[u8], stream: Stream) {
     let mut out = [238u8; 41];
-    say(call);
-    laid(stream_record::lay_down(stream, &mut out), &out);
+    say(rt, call);
+    laid(rt, stream_record::lay_down(stream, &mut out), &out);
 }
 
 // A stream but for its schedule.
-fn show(stream: Stream) {
+fn show(rt: &impl Print, stream: Stream) {
     let chain = stream.chain;
     let held = stream.held;
-    number(b", direction ", stream.direction as u64);
-    number(b", count ", stream.count);
-    say(b", chain ");
-    hex(&chain);
-    say(b", held ");
-    hex(&held);
+    number(rt, b", direction ", stream.direction as u64);
+    number(rt, b", count ", stream.count);
+    say(rt, b", chain ");
+    hex(rt, &chain);
+    say(rt, b", held ");
+    hex(rt, &held);
     if stream.closed {
-        say(b", closed\n");
+        say(rt, b", closed\n");
     } else {
-        say(b", open\n");
+        say(rt, b", open\n");
     }
 }
 
-fn take_up(call: &[u8], schedule: Schedule, record: &[u8]) -> Stream {
-    say(call);
+fn take_up(rt: &impl Print, call: &[u8], schedule: Schedule, record: &[u8]) -> Stream {
+    say(rt, call);
     let taken = stream_record::take_up(schedule, record);
-    number(b": answer ", taken.answer as u64);
-    show(taken.stream);
+    number(rt, b": answer ", taken.answer as u64);
+    show(rt, taken.stream);
     taken.stream
 }
 
 // A piece of one byte, into 16 bytes of room.
-fn piece(call: &[u8], stream: Stream) {
+fn piece(rt: &impl Print, call: &[u8], stream: Stream) {
     let mut out = [238u8; 16];
-    say(call);
+    say(rt, call);
     let f = stream.feed(b"t", &mut out);
-    number(b": answer ", f.answer as u64);
-    number(b", writes ", f.written);
-    line(b", output ", &out);
+    number(rt, b": answer ", f.answer as u64);
+    number(rt, b", writes ", f.written);
+    line(rt, b", output ", &out);
 }
 
 // ---- laid down and taken up again
-fn rooms(half_read: Stream) {
-    lay_in_39(b"  31 bytes fed, laid down in 39 of room", half_read);
-    lay_in_41(b"  then in 41 of room", half_read);
+fn rooms(rt: &impl Print, half_read: Stream) {
+    lay_in_39(rt, b"  31 bytes fed, laid down in 39 of room", half_read);
+    lay_in_41(rt, b"  then in 41 of room", half_read);
 }
 
-fn again(schedule: Schedule, half_read: Stream, record: &[u8]) {
-    let taken = take_up(b"  taken up", schedule, record);
-    piece(b"  then a piece of 1", taken);
-    piece(b"  the stream that was laid down, a piece of 1", half_read);
+fn again(rt: &impl Print, schedule: Schedule, half_read: Stream, record: &[u8]) {
+    let taken = take_up(rt, b"  taken up", schedule, record);
+    piece(rt, b"  then a piece of 1", taken);
+    piece(
+        rt,
+        b"  the stream that was laid down, a piece of 1",
+        half_read,
+    );
 }
 
-fn other_schedules(cipher: u64, record: &[u8]) {
+fn other_schedules(rt: &impl Print, cipher: u64, record: &[u8]) {
     let made = cipher::set_up(cipher, b"fedcba9876543210");
-    let taken = take_up(b"  taken up under another key", made.schedule, record);
-    piece(b"  then a piece of 1", taken);
+    let taken = take_up(rt, b"  taken up under another key", made.schedule, record);
+    piece(rt, b"  then a piece of 1", taken);
     let zeros = cipher::no_schedule();
-    take_up(b"  taken up under a schedule of zeros", zeros, record);
-    take_up(b"  no bytes under a schedule of zeros", zeros, b"");
+    take_up(rt, b"  taken up under a schedule of zeros", zeros, record);
+    take_up(rt, b"  no bytes under a schedule of zeros", zeros, b"");
 }
 
 // ---- records that aren't the stream's
@@ -104,11 +108,11 @@ fn longer(record: [u8; 40]) -> [u8; 44] {
 }
 
 // The bytes are those of the record and more.
-fn lengths(schedule: Schedule, bytes: &[u8]) {
-    take_up(b"  no bytes", schedule, front(bytes, 0));
-    take_up(b"  39 bytes", schedule, front(bytes, 39));
-    take_up(b"  41 bytes", schedule, front(bytes, 41));
-    take_up(b"  44 bytes", schedule, bytes);
+fn lengths(rt: &impl Print, schedule: Schedule, bytes: &[u8]) {
+    take_up(rt, b"  no bytes", schedule, front(bytes, 0));
+    take_up(rt, b"  39 bytes", schedule, front(bytes, 39));
+    take_up(rt, b"  41 bytes", schedule, front(bytes, 41));
+    take_up(rt, b"  44 bytes", schedule, bytes);
 }
 
 fn with(record: [u8; 40], at: usize, byte: u8) -> [u8; 40] {
@@ -119,56 +123,64 @@ fn with(record: [u8; 40], at: usize, byte: u8) -> [u8; 40] {
     other
 }
 
-fn changed(call: &[u8], schedule: Schedule, record: [u8; 40], at: usize, byte: u8) {
+fn changed(
+    rt: &impl Print,
+    call: &[u8],
+    schedule: Schedule,
+    record: [u8; 40],
+    at: usize,
+    byte: u8,
+) {
     let other = with(record, at, byte);
-    take_up(call, schedule, &other);
+    take_up(rt, call, schedule, &other);
 }
 
-fn ciphers(cipher: u64, schedule: Schedule, record: [u8; 40]) {
+fn ciphers(rt: &impl Print, cipher: u64, schedule: Schedule, record: [u8; 40]) {
     let another = (cipher % 4 + 1) as u8;
-    changed(b"  cipher 0", schedule, record, 0, 0);
-    changed(b"  cipher 5", schedule, record, 0, 5);
-    changed(b"  another cipher", schedule, record, 0, another);
+    changed(rt, b"  cipher 0", schedule, record, 0, 0);
+    changed(rt, b"  cipher 5", schedule, record, 0, 5);
+    changed(rt, b"  another cipher", schedule, record, 0, another);
     changed(
+        rt,
         b"  another cipher, and direction 3",
         schedule,
         with(record, 0, another),
         2,
         3,
     );
-    changed(b"  a key length of 15", schedule, record, 1, 15);
-    changed(b"  a key length of 24", schedule, record, 1, 24);
-    changed(b"  a key length of 32", schedule, record, 1, 32);
+    changed(rt, b"  a key length of 15", schedule, record, 1, 15);
+    changed(rt, b"  a key length of 24", schedule, record, 1, 24);
+    changed(rt, b"  a key length of 32", schedule, record, 1, 32);
 }
 
-fn fields(schedule: Schedule, record: [u8; 40]) {
-    changed(b"  direction 0", schedule, record, 2, 0);
-    changed(b"  direction 2", schedule, record, 2, 2);
-    changed(b"  direction 3", schedule, record, 2, 3);
-    changed(b"  closed, with 15 bytes held", schedule, record, 3, 1);
-    changed(b"  a closed byte of 2", schedule, record, 3, 2);
-    changed(b"  a count of 30", schedule, record, 7, 30);
-    changed(b"  a count of 16777247", schedule, record, 4, 1);
-    changed(b"  the last held byte 1", schedule, record, 39, 1);
+fn fields(rt: &impl Print, schedule: Schedule, record: [u8; 40]) {
+    changed(rt, b"  direction 0", schedule, record, 2, 0);
+    changed(rt, b"  direction 2", schedule, record, 2, 2);
+    changed(rt, b"  direction 3", schedule, record, 2, 3);
+    changed(rt, b"  closed, with 15 bytes held", schedule, record, 3, 1);
+    changed(rt, b"  a closed byte of 2", schedule, record, 3, 2);
+    changed(rt, b"  a count of 30", schedule, record, 7, 30);
+    changed(rt, b"  a count of 16777247", schedule, record, 4, 1);
+    changed(rt, b"  the last held byte 1", schedule, record, 39, 1);
 }
 
 // ---- closed, and at the limit
-fn closed(schedule: Schedule, half_read: Stream) -> [u8; 40] {
+fn closed(rt: &impl Print, schedule: Schedule, half_read: Stream) -> [u8; 40] {
     let mut out = [238u8; 16];
     let whole = half_read.feed(b"t", &mut out);
     let done = whole.next.finish();
-    let record = lay(b"  32 bytes and finish, laid down", done.next);
-    let taken = take_up(b"  taken up", schedule, &record);
-    piece(b"  then a piece of 1", taken);
+    let record = lay(rt, b"  32 bytes and finish, laid down", done.next);
+    let taken = take_up(rt, b"  taken up", schedule, &record);
+    piece(rt, b"  then a piece of 1", taken);
     record
 }
 
-fn limit(schedule: Schedule, record: [u8; 40]) {
+fn limit(rt: &impl Print, schedule: Schedule, record: [u8; 40]) {
     let open = with(record, 3, 0);
     let full = with(with(open, 5, 16), 7, 0);
-    let taken = take_up(b"  a count of 1048576", schedule, &full);
-    piece(b"  then a piece of 1", taken);
-    changed(b"  a count of 1048577", schedule, full, 7, 1);
+    let taken = take_up(rt, b"  a count of 1048576", schedule, &full);
+    piece(rt, b"  then a piece of 1", taken);
+    changed(rt, b"  a count of 1048577", schedule, full, 7, 1);
 }
 
 fn half_read(fresh: Stream) -> Stream {
@@ -188,35 +200,36 @@ fn quiet(stream: Stream) -> [u8; 40] {
     out
 }
 
-fn of_half_read(cipher: u64, schedule: Schedule, stream: Stream) {
-    rooms(stream);
+fn of_half_read(rt: &impl Print, cipher: u64, schedule: Schedule, stream: Stream) {
+    rooms(rt, stream);
     let record = quiet(stream);
-    again(schedule, stream, &record);
-    other_schedules(cipher, &record);
+    again(rt, schedule, stream, &record);
+    other_schedules(rt, cipher, &record);
     let bytes = longer(record);
-    lengths(schedule, &bytes);
-    ciphers(cipher, schedule, record);
-    fields(schedule, record);
-    let ended = closed(schedule, stream);
-    limit(schedule, ended);
+    lengths(rt, schedule, &bytes);
+    ciphers(rt, cipher, schedule, record);
+    fields(rt, schedule, record);
+    let ended = closed(rt, schedule, stream);
+    limit(rt, schedule, ended);
 }
 
-fn cases(cipher: u64) {
-    number(b"cipher ", cipher);
-    say(b"\n");
+fn cases(rt: &impl Print, cipher: u64) {
+    number(rt, b"cipher ", cipher);
+    say(rt, b"\n");
     lay(
+        rt,
         b"  a stream of zeros laid down",
         start(cipher::no_schedule()),
     );
     let made = cipher::set_up(cipher, b"0123456789abcdef");
     let fresh = start(made.schedule);
-    lay(b"  a fresh stream laid down", fresh);
-    of_half_read(cipher, made.schedule, half_read(fresh));
+    lay(rt, b"  a fresh stream laid down", fresh);
+    of_half_read(rt, cipher, made.schedule, half_read(fresh));
 }
 
-fn main() {
-    cases(1);
-    cases(2);
-    cases(3);
-    cases(4);
+fn main(rt: HostRuntime) {
+    cases(&rt, 1);
+    cases(&rt, 2);
+    cases(&rt, 3);
+    cases(&rt, 4);
 }

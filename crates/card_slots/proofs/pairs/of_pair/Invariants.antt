@@ -1,0 +1,12 @@
+use Prim.Native.Nat.{◌-◌}
+use Rattle.card_slots.specs.Card.{slots}
+use Rattle.card_slots.specs.Find.{place, named}
+use Rattle.card_slots.proofs.Slots.{Looked}
+use Rattle.card_slots.proofs.pairs.of_pair.Given as goal
+
+-- the test holds of no slot before i
+abbrev pub invariant-loop-i : goal.invariant-loop-i
+invariant-loop-i l = Looked (named (l.recipe, l.segment)) l.card (place (named (l.recipe, l.segment)) (slots l.card)) l.n l.i
+
+abbrev pub decreases-loop-i : goal.decreases-loop-i
+decreases-loop-i l = l.n - l.i

@@ -1,0 +1,7 @@
+use mathlib.Core.Path.{◌∙◌}
+use Rattle.stream.specs.Calls.{start_refusal}
+use Rattle.stream.proofs.state.start_refusal.Goals as goal
+
+pub returns : goal.returns
+unfolding start_refusal
+returns c = c.first.ensures ∙ rw (c.bad_schedule.ensures, c.is_direction-undirected.ensures)
