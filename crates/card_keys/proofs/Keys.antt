@@ -9,7 +9,7 @@ use native.Mathlib.Nat.{le_of_suc-le-suc, not-suc-le-zero}
 use lib.Dec.{eqb, ltb}
 use lib.ListN.{length, get_or, set, take, drop, length-set}
 use lib.Seq.{append_snoc, length-take-le, take_at, take-suc-set, take-set-le}
-use borrow.Author.Tests.{eq-eqb, eqb-true, lt-ltb, le-ltb, ltb-false}
+use borrow.Author.Tests.{eq-eqb, eqb-true, lt-ltb, le-ltb, ltb-true, ltb-false}
 use Rattle.laws.specs.Choice.{choose}
 use Rattle.sorting.specs.Sorted.{times, Sorted}
 use Rattle.card_slots.specs.Card.{slot, slots}
@@ -38,7 +38,7 @@ module _ {card : List ℕ} {n : ℕ} {keys : List ℕ} {filled i : ℕ} (w : Col
         let a = w.all in
         ap (keys_from i) (slots_next card i (omega arith)) ∙ rw (← key_is, add-one)
 
-    pub collected_none : k < 256 → {m : ℕ} → m ≡ filled → Collected card n (set keys filled k) m (i + 1)
+    collected_none : k < 256 → {m : ℕ} → m ≡ filled → Collected card n (set keys filled k) m (i + 1)
     unfolding behind
     collected_none u g =
         let a = w.low in
@@ -54,7 +54,7 @@ module _ {card : List ℕ} {n : ℕ} {keys : List ℕ} {filled i : ℕ} (w : Col
               ∙ w.still;
         }
 
-    pub collected_one : 256 ≤ k → {m : ℕ} → m ≡ filled + 1 → Collected card n (set keys filled k) m (i + 1)
+    collected_one : 256 ≤ k → {m : ℕ} → m ≡ filled + 1 → Collected card n (set keys filled k) m (i + 1)
     unfolding behind
     collected_one u {m} g =
         let a = w.low in
@@ -72,6 +72,14 @@ module _ {card : List ℕ} {n : ℕ} {keys : List ℕ} {filled i : ℕ} (w : Col
               ∙ ap (λ (x : List ℕ). take filled keys ++ x) (sym (from_here ∙ ap (λ (b : Bool). choose b behind (k ∷ behind)) (le-ltb k 256 u)))
               ∙ w.still;
         }
+
+    -- it is a slot's key exactly if it is 256 or more
+    pub collected_next : {m : ℕ} → (256 ≤ k → m ≡ filled + 1) → (k < 256 → m ≡ filled) → Collected card n (set keys filled k) m (i + 1)
+    collected_next {m} some none = go (ltb k 256) refl
+      where
+        go : (t : Bool) → ltb k 256 ≡ t → Collected card n (set keys filled k) m (i + 1)
+        go true f = let u = ltb-true k 256 f in collected_none u (none u)
+        go false f = let u = ltb-false k 256 f in collected_one u (some u)
 
   pub collected_end : n ≤ i → take filled keys ≡ keys_from 0 (slots card)
   collected_end h =

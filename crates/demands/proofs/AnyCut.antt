@@ -16,7 +16,7 @@ use Rattle.cipher_numbers.specs.Ciphers.{is_direction}
 use Rattle.cipher.specs.Schedule.{bad, enciphered, deciphered}
 use Rattle.cipher.specs.declared.Schedule.{Schedule}
 use Rattle.demands.proofs.Undo.{block_inverse, enciphered_long}
-use Rattle.cbc.specs.Cbc.{chain, answer}
+use Rattle.cbc.specs.Cbc.{answer}
 use Rattle.cbc.proofs.Parts.{chain_none}
 use Rattle.cbc.proofs.Undo.{message_undo, message_redo}
 use Rattle.stream.specs.State.{fresh, zero_stream}

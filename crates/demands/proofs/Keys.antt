@@ -14,7 +14,7 @@ use Rattle.hierocrypt3_keys.specs.Keys.{K}
 use Rattle.hierocrypt3_keys.specs.Keys as hierocrypt3-keys
 use Rattle.e2_keys.specs.Keys.{subkey}
 use Rattle.e2_keys.specs.Keys as e2-keys
-use Rattle.cipher_numbers.specs.Ciphers.{Cipher, number, is_length, member, padded}
+use Rattle.cipher_numbers.specs.Ciphers.{number, is_length, member, padded}
 use Rattle.cipher_numbers.proofs.Legal.{by_number, just_16, legal_cipher}
 use Rattle.cipher.specs.Schedule.{bad}
 use Rattle.cipher.specs.Calls.{schedule}

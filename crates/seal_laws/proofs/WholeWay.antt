@@ -1,7 +1,7 @@
 -- The whole way: for every legal key that isn't blank set-up and start accept, and however the pieces are cut, what is written is the CMAC of the accepted bytes
 -- over the cipher's own written definition, under the round keys that its definition makes of the key. And a seal has 16 bytes.
 use mathlib.Core.Path.{◌≡◌, ap, ◌∙◌}
-use mathlib.Core.Bool.{true, false}
+use mathlib.Core.Bool.{false}
 use mathlib.Core.List.{List, [], ◌∷◌, ◌++◌}
 use Prim.Native.Nat.{ℕ, ◌≤◌}
 use lib.ListN.{length, drop}

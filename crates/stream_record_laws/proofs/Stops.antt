@@ -27,8 +27,8 @@ use Rattle.stream_layout.specs.Layout.{record_length}
 use Rattle.stream_record.specs.Record.{record_of}
 use Rattle.stream_record.specs.Calls.{lay_down_refusal, lay_down_out, take_up}
 use Rattle.stream_record_laws.specs.Stops.{Step, Caller, has, answered, taken, step, behind, all_accepted, all_written, calls, AcrossStops}
-use Rattle.stream_record_laws.specs.Stops.Step.{call, lay, taken_up_again, miss}
-use Rattle.stream_record_laws.proofs.TakenUp.{Shaped, taken_up_again_lem, front_is_record, taken_up_whole}
+use Rattle.stream_record_laws.specs.Stops.Step.{call, lay, take_up_kept, miss}
+use Rattle.stream_record_laws.proofs.TakenUp.{Shaped, taken_up_again, front_is_record, taken_up_whole}
 use Rattle.stream_record_laws.proofs.Shape.{next_shaped, next_good}
 
 -- ---- what the caller has is sound: a good stream, and its record or none
@@ -99,7 +99,7 @@ same_taken c h = go h.kept
 
     go : (c.kept ≡ []) ⊎ (c.kept ≡ record_of s) → taken s (take_up s.schedule c.kept) ≡ s
     go (inl e) = ap (λ (r : List ℕ). taken s (take_up s.schedule r)) e ∙ not_taken s s.schedule [] (none s.schedule)
-    go (inr e) = ap (λ (r : List ℕ). taken s (take_up s.schedule r)) e ∙ ap (taken s) (taken_up_again_lem s h.shaped h.good)
+    go (inr e) = ap (λ (r : List ℕ). taken s (take_up s.schedule r)) e ∙ ap (taken s) (taken_up_again s h.shaped h.good)
 
 -- ---- any steps: of a caller c they are the calls among them, on a stream s
 record Same (c : Caller) (s : Stream) (xs : List Step) : Type 0 where
@@ -125,8 +125,8 @@ same (call k ∷ xs) c h =
 same (lay o ∷ xs) c h =
     let r = same xs (step c (lay o)) (sound_lay c o h) in
     record { state = r.state; taken_in = r.taken_in; given_out = r.given_out }
-same (taken_up_again ∷ xs) c h =
-    let r = standing c (step c taken_up_again).stream xs (same_taken c h) h (same xs (step c taken_up_again)) in
+same (take_up_kept ∷ xs) c h =
+    let r = standing c (step c take_up_kept).stream xs (same_taken c h) h (same xs (step c take_up_kept)) in
     record { state = r.state; taken_in = r.taken_in; given_out = r.given_out }
 same (miss k b z ∷ xs) c h =
     let r = standing c (step c (miss k b z)).stream xs (not_taken c.stream k b z) h (same xs (step c (miss k b z))) in

@@ -111,9 +111,9 @@ module _ (s : Stream) (h : Shaped s) where
         ∙ rw ((good s g).schedule, spelt-laid (fields_of s) fit, own_fields, own_schedule)
 
     -- with the same schedule the stream taken up is the one laid down
-    pub taken_up_again_lem : take_up s.schedule (record_of s) ≡ started_as refusal.done s
+    pub taken_up_again : take_up s.schedule (record_of s) ≡ started_as refusal.done s
     unfolding record_of
-    taken_up_again_lem =
+    taken_up_again =
         sym (taken_up s.schedule (laid (fields_of s)) own_accepted)
         ∙ ap (λ (f : Fields). started_as refusal.done (stream_from s.schedule f)) (spelt-laid (fields_of s) fit)
         ∙ ap (started_as refusal.done) (spelt_again s.schedule)
@@ -135,7 +135,7 @@ module _ (s : Stream) (h : Shaped s) where
 pub one_stream : (s t : Stream) → Shaped s → Shaped t → bad_state s ≡ false → bad_state t ≡ false → s.schedule ≡ t.schedule → record_of s ≡ record_of t → s ≡ t
 one_stream s t hs ht gs gt e r =
     ap (λ (x : Started). x.stream)
-    (sym (taken_up_again_lem s hs gs) ∙ ap₂ take_up e r ∙ taken_up_again_lem t ht gt)
+    (sym (taken_up_again s hs gs) ∙ ap₂ take_up e r ∙ taken_up_again t ht gt)
 
 -- ---- what the fields of an accepted record are
 record GoodFields (f : Fields) : Type 0 where

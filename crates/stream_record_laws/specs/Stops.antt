@@ -19,7 +19,7 @@ use Rattle.stream_record.specs.Calls.{lay_down_refusal, lay_down_out, take_up}
 pub data Step : Type 0 where
   call : Call → Step
   lay : List ℕ → Step
-  taken_up_again : Step
+  take_up_kept : Step
   miss : (k : Schedule) (r : List ℕ) → ((take_up k r).answer ≡ refusal.done → ⊥) → Step
 
 -- what the caller has: the stream, and the record that he laid down last; no bytes, if there is none, or if a call was done since, for then the record is of
@@ -45,7 +45,7 @@ abbrev pub step : Caller → Step → Caller
 step c (call k) = has (next c.stream k) (choose (eqb (answered c.stream k) refusal.done) [] c.kept)
 step c (lay o) =
     has c.stream (choose (eqb (lay_down_refusal c.stream (length o)) refusal.done) (take record_length (lay_down_out c.stream o)) c.kept)
-step c taken_up_again = has (taken c.stream (take_up c.stream.schedule c.kept)) c.kept
+step c take_up_kept = has (taken c.stream (take_up c.stream.schedule c.kept)) c.kept
 step c (miss k r z) = has (taken c.stream (take_up k r)) c.kept
 
 -- ---- all of them
@@ -57,13 +57,13 @@ behind c (x ∷ xs) = behind (step c x) xs
 abbrev pub accepted_by : Caller → Step → List ℕ
 accepted_by c (call k) = accepted c.stream k
 accepted_by c (lay o) = []
-accepted_by c taken_up_again = []
+accepted_by c take_up_kept = []
 accepted_by c (miss k r z) = []
 
 abbrev pub written_by : Caller → Step → List ℕ
 written_by c (call k) = written c.stream k
 written_by c (lay o) = []
-written_by c taken_up_again = []
+written_by c take_up_kept = []
 written_by c (miss k r z) = []
 
 abbrev pub all_accepted : Caller → List Step → List ℕ
@@ -79,7 +79,7 @@ abbrev pub calls : List Step → List Call
 calls [] = []
 calls (call k ∷ xs) = k ∷ calls xs
 calls (lay o ∷ xs) = calls xs
-calls (taken_up_again ∷ xs) = calls xs
+calls (take_up_kept ∷ xs) = calls xs
 calls (miss k r z ∷ xs) = calls xs
 
 -- the demand, of a stream s and the steps xs
