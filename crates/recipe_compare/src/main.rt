@@ -4,7 +4,9 @@
 
 use card_files::{input, output};
 use card_show::changes;
-use recipe_words::{files, outcome};
+use recipe_words::files::{Laid, NOTHING};
+use recipe_words::{arguments, files, outcome};
+use std::io::Error;
 use wording::front;
 
 const FIRST: usize = 2;
@@ -12,6 +14,9 @@ const FIRST: usize = 2;
 const SECOND: usize = 3;
 
 const OUT: usize = 4;
+
+// The system's number for a file that is not open.
+const NOT_OPEN: i32 = 9;
 
 fn show(rt: &HostRuntime, first: &[u8], second: &[u8], list: &[u8]) {
     let mut out = [0u8; 65536];
@@ -47,6 +52,20 @@ fn compare_two(rt: &HostRuntime, first: &[u8], second: &[u8]) {
     );
 }
 
+fn is_stdin(rt: &HostRuntime, argument: usize) -> bool {
+    arguments::is(rt, argument, b"-")
+}
+
+// The second card. Standard input is read to its end once, and can't be the second card too.
+fn second(rt: &HostRuntime, space: &mut [u8]) -> Laid {
+    if is_stdin(rt, FIRST) & is_stdin(rt, SECOND) {
+        let error = Error::from_raw_os_error(NOT_OPEN);
+        outcome::failed(rt, b"failed read ", b"second", &error);
+        return NOTHING;
+    }
+    files::whole(rt, SECOND, b"second", true, space)
+}
+
 fn main(rt: HostRuntime) {
     let mut one = [0u8; 4113];
     let mut two = [0u8; 4113];
@@ -54,7 +73,7 @@ fn main(rt: HostRuntime) {
     if !a.ok {
         return;
     }
-    let b = files::whole(&rt, SECOND, b"second", true, &mut two);
+    let b = second(&rt, &mut two);
     if !b.ok {
         return;
     }
