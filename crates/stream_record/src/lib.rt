@@ -67,6 +67,7 @@ fn bad_fields(f: Fields) -> bool
 }
 
 // Is the record of another cipher or key length?
+#[tactic(auto, using(crate::proofs::Outcomes::another_cipher, crate::proofs::Outcomes::by_length_lem))]
 fn differs(schedule: Schedule, f: Fields) -> bool
     ensures { result ≡ differs schedule f }
 {
