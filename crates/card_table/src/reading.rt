@@ -125,6 +125,7 @@ fn wrong(before: Table) -> Table
 }
 
 // A record put behind those that are there, if its pair is new and there is room.
+#[tactic(auto, unfolding(crate::specs::Table::with_record, card_slots::specs::Find::find_part))]
 fn put(
     rt: &impl Print,
     card: &mut [u8],

@@ -7,17 +7,8 @@ use Rattle.card.specs.Put.{put_answer, put_card}
 use Rattle.card_table.specs.Table.{read_as}
 use Rattle.card_table.specs.code.State.{read_of}
 use Rattle.card_table.specs.declared.reading.Table.{Table}
-use Rattle.card_table.proofs.Records.{some_part, no_part, there_already, no_room_lem, record_put}
+use Rattle.card_table.proofs.Records.{no_part, no_room_lem, record_put}
 use Rattle.card_table.proofs.reading.put.Goals as goal
-
-pub returns-then-find-gt0 : goal.returns-then-find-gt0
-returns-then-find-gt0 g c =
-    let a = c.args in
-    let f = a.f in
-    let h = ap length c.find.ensures.handed.holds in
-    ap (λ (t : Table). read_of t a.card.now) c.wrong.ensures
-    ∙ there_already (read_of a.before a.card.now) f
-    (some_part a.card.now (f.recipe, f.segment) (omega (arith, h, c.if-find-gt0.true)))
 
 pub returns-then-put-ne-DONE : goal.returns-then-put-ne-DONE
 returns-then-put-ne-DONE g c =
@@ -28,7 +19,7 @@ returns-then-put-ne-DONE g c =
     ap₂ (λ (t : Table) (card : List ℕ). read_of t card) c.wrong-then-put-ne-DONE.ensures
     (c.put.ensures.left ∙ ap (put_card a.card.now) s)
     ∙ no_room_lem (read_of a.before a.card.now) f
-    (no_part a.card.now (f.recipe, f.segment) (omega (arith, h, c.if-find-gt0.false)))
+    (no_part a.card.now (f.recipe, f.segment) (omega (arith, h)))
     (λ z. c.if-put-ne-DONE.true (c.put.ensures.answered ∙ ap (put_answer a.card.now) s ∙ z))
 
 pub returns : goal.returns
@@ -39,5 +30,5 @@ returns g c =
     let s = c.laid.ensures.value in
     ap (read_as a.before.good (a.before.records + 1)) (c.put.ensures.left ∙ ap (put_card a.card.now) s)
     ∙ record_put (read_of a.before a.card.now) f
-    (no_part a.card.now (f.recipe, f.segment) (omega (arith, h, c.if-find-gt0.false)))
+    (no_part a.card.now (f.recipe, f.segment) (omega (arith, h)))
     (sym (c.put.ensures.answered ∙ ap (put_answer a.card.now) s) ∙ c.if-put-ne-DONE.false)
