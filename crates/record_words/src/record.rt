@@ -26,6 +26,7 @@ pub struct Record {
     pub fields: Fields,
 }
 
+#[tactic(auto, unfolding(crate::specs::Record::spelled_in))]
 fn spelled(field: u8, text: &[u8]) -> Spelled
     ensures { result ≡ spec.spelled_in field text.now }
 {
