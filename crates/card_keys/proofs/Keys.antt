@@ -38,7 +38,7 @@ module _ {card : List ℕ} {n : ℕ} {keys : List ℕ} {filled i : ℕ} (w : Col
         let a = w.all in
         ap (keys_from i) (slots_next card i (omega arith)) ∙ rw (← key_is, add-one)
 
-    collected_none : k < 256 → {m : ℕ} → m ≡ filled → Collected card n (set keys filled k) m (i + 1)
+    pub collected_none : k < 256 → {m : ℕ} → m ≡ filled → Collected card n (set keys filled k) m (i + 1)
     unfolding behind
     collected_none u g =
         let a = w.low in
@@ -54,7 +54,7 @@ module _ {card : List ℕ} {n : ℕ} {keys : List ℕ} {filled i : ℕ} (w : Col
               ∙ w.still;
         }
 
-    collected_one : 256 ≤ k → {m : ℕ} → m ≡ filled + 1 → Collected card n (set keys filled k) m (i + 1)
+    pub collected_one : 256 ≤ k → {m : ℕ} → m ≡ filled + 1 → Collected card n (set keys filled k) m (i + 1)
     unfolding behind
     collected_one u {m} g =
         let a = w.low in

@@ -2,14 +2,43 @@
 use mathlib.Core.Path.{◌≡◌, refl, sym, ap, ◌∙◌}
 use mathlib.Core.Bool.{Bool, true, false, not, ◌&&◌}
 use mathlib.Core.List.{List}
-use Prim.Native.Nat.{ℕ}
+use Prim.Native.Nat.{ℕ, ◌≤◌, ◌<◌}
 use lib.Dec.{eqb}
 use lib.ListN.{length}
-use borrow.Author.Tests.{eq-eqb, ne_eqb, eqb-true}
+use borrow.Author.Tests.{eq-eqb, ne_eqb, eqb-true, le-leb, lt-leb}
 use Rattle.laws.specs.Choice.{choose}
 use Rattle.laws.proofs.Test.{and_left}
-use Rattle.card_slots.specs.Slot.{recipe, segment, empty, keeps_rules, legal, illegal, good_record}
+use Rattle.runs.specs.Zeros.{zeros}
+use Rattle.laws.specs.Range.{within}
+use Rattle.card_slots.specs.Slot.{recipe, segment, kind, target, rest, empty, keeps_rules, legal, illegal, good_record}
 use Rattle.card_slots.specs.Find.{named}
+
+-- ---- a slot that isn't empty
+pub rule : (low high : ℕ) {n m : ℕ} {w v : Bool} → n ≡ m → w ≡ within low high n → w ≡ v → within low high m ≡ v
+rule low high e f g = ap (within low high) (sym e) ∙ sym f ∙ g
+
+pub rules_recipe : (s : List ℕ) → within 1 65535 (recipe s) ≡ false → false ≡ keeps_rules s
+unfolding keeps_rules
+rules_recipe s a = rw a
+
+module _ (s : List ℕ) (a : within 1 65535 (recipe s) ≡ true) where
+  pub rules_segment : within 1 32 (segment s) ≡ false → false ≡ keeps_rules s
+  unfolding keeps_rules
+  rules_segment b = rw (a, b)
+
+  module _ (b : within 1 32 (segment s) ≡ true) where
+    pub rules_kind : within 1 3 (kind s) ≡ false → false ≡ keeps_rules s
+    unfolding keeps_rules
+    rules_kind c = rw (a, b, c)
+
+    module _ (c : within 1 3 (kind s) ≡ true) where
+      pub rules_target : 13500 < target s → false ≡ keeps_rules s
+      unfolding keeps_rules
+      rules_target d = rw (a, b, c, lt-leb _ _ d)
+
+      pub rules_rest : target s ≤ 13500 → {z : Bool} → z ≡ zeros (rest s) → z ≡ keeps_rules s
+      unfolding keeps_rules
+      rules_rest d e = rw (a, b, c, le-leb _ _ d) e
 
 -- ---- a slot, empty or not
 module _ (s : List ℕ) where

@@ -2,7 +2,7 @@
 use mathlib.Core.Path.{◌≡◌, refl, sym, ◌∙◌}
 use mathlib.Core.Bool.{Bool, true, false, true≢false}
 use mathlib.Core.List.{List, [], ◌∷◌}
-use Prim.Native.Nat.{ℕ, ◌+◌, ◌≤◌}
+use Prim.Native.Nat.{ℕ, ◌+◌, ◌≤◌, ◌<◌}
 use native.Mathlib.Omega.{arith}
 use lib.Dec.{eqb}
 use lib.ListN.{length}
@@ -28,6 +28,14 @@ nothing_empty (c ∷ l) h = absurd (omega arith)
 
 -- ---- a pair is found exactly if a part is handed back
 module _ (card : List ℕ) (p : ℕ × ℕ) where
+  pub some_part : 0 < length (find_part card p) → found card p ≡ true
+  unfolding find_part
+  some_part h = go (found card p) refl
+    where
+      go : (b : Bool) → found card p ≡ b → found card p ≡ true
+      go true e = e
+      go false e = absurd (let n : 0 < length {A = ℕ} [] = rw e at h in omega arith)
+
   pub no_part : length (find_part card p) ≤ 0 → found card p ≡ false
   no_part h = go (found card p) refl
     where
@@ -37,6 +45,10 @@ module _ (card : List ℕ) (p : ℕ × ℕ) where
 
 -- ---- a record
 module _ (r : Read) (f : Fields) where
+  pub there_already : found r.card (f.recipe, f.segment) ≡ true → wrong r ≡ with_record r f
+  unfolding with_record
+  there_already e = rw e
+
   module _ (e : found r.card (f.recipe, f.segment) ≡ false) where
     pub no_room_lem : (put_answer r.card (slot_of f) ≡ done → ⊥) → read_as false r.records (put_card r.card (slot_of f)) ≡ with_record r f
     unfolding with_record

@@ -5,15 +5,24 @@ use mathlib.Core.List.{List}
 use Prim.Native.Nat.{ℕ, ◌≤◌}
 use lib.Dec.{leb}
 use borrow.Author.Tests.{leb-true, leb-false}
+use Rattle.spelling.specs.Number.{whole, tenths}
 use Rattle.spelling.specs.Word.{spells}
 use Rattle.spelling.specs.declared.number.Spelled.{Spelled}
-use Rattle.card_rules.specs.Rules.{may_be}
+use Rattle.card_rules.specs.Rules.{may_be, in_tenths}
 use Rattle.card_rules.proofs.LegalElse.{over_two_bytes}
 use Rattle.card_fields.specs.Kinds.{climb, hold, drop}
 use Rattle.record_words.specs.Record.{right, wrong, spelled_in, number_in, kind_of}
 
 -- ---- a number
 module _ (field : ℕ) (text : List ℕ) where
+  pub in_tenths_lem : in_tenths field ≡ true → tenths text ≡ spelled_in field text
+  unfolding spelled_in
+  in_tenths_lem t = rw t
+
+  pub in_whole : in_tenths field ≡ false → whole text ≡ spelled_in field text
+  unfolding spelled_in
+  in_whole t = rw t
+
   module _ (n : Spelled) (e : n ≡ spelled_in field text) where
     pub no_number : n.ok ≡ false → wrong ≡ number_in field text
     unfolding number_in
