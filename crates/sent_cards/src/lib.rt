@@ -112,6 +112,7 @@ fn sealed_by(key: &[u8], file: &[u8]) -> u64
 }
 
 // Why a file is not sealed under the second key.
+#[tactic(auto, using(crate::proofs::Verdicts::is_lengthened, crate::proofs::Verdicts::is_exchanged, crate::proofs::Verdicts::is_other, crate::proofs::Verdicts::is_nothing))]
 fn explain(first: Schedule, second: Schedule, key: &[u8], file: &[u8]) -> Verdict
     requires { (32 ≤ length file.now) × (length file.now ≤ 4128) }
     ensures { result ≡ sent.explained first second key.now file.now }
