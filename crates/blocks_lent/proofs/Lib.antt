@@ -1,3 +1,3 @@
-pub mod Tables
-pub mod Message
+pub mod FirstAndRest
 pub mod Each
+pub mod ByNumber

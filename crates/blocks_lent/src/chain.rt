@@ -1,101 +1,72 @@
 // Blocks in a chain, CBC.
-ghost use Rattle.std.specs.Prelude.{◌≡◌, [], ◌∷◌, ◌++◌, ◌*◌, ◌+◌, ◌≤◌, length, take, drop};
-ghost use Rattle.cbc.specs.Cbc as cbc;
-ghost use Rattle.blocks_lent.specs.Ways.{E, D, Lent, LegalWay};
+ghost use Rattle.std.specs.Prelude.{◌≡◌, ◌++◌, ◌*◌, ◌≤◌, length, drop};
+ghost use Rattle.cbc.specs.Cbc.{blocks, join, cbc_encryption, cbc_decryption, last_or};
 
-use crate::{Way, deciphered, enciphered};
-use cipher_numbers::ENCIPHER;
+use crate::BlockFunction;
+use crate::message::Message;
 
-// A block through the chain: what goes out, and the next chain block.
-#[derive(Clone, Copy)]
-struct Step {
-    out: [u8; 16],
-    chain: [u8; 16],
-}
-
-fn chained(
-    sbox: &[u8],
-    table: &[u32],
+// n blocks of a message enciphered through the chain to the front of the output, and the chain block after them.
+pub fn encipher_with<E: BlockFunction>(
+    e: &E,
     keys: &[u8; 288],
-    way: Way,
     chain: [u8; 16],
-    x: [u8; 16],
-) -> Step
-    requires { Lent way sbox.now table.now × LegalWay way }
-    ensures { (cbc.out (E way keys.now) (D way keys.now) way.direction chain (x ∷ []) ≡ result.out ∷ [])
-        × (cbc.chain (E way keys.now) way.direction chain (x ∷ []) ≡ result.chain) }
-{
-    if way.direction == ENCIPHER {
-        let y = enciphered(sbox, table, keys, way, words::bytes::xor16(x, chain));
-        Step { out: y, chain: y }
-    } else {
-        let y = words::bytes::xor16(deciphered(sbox, table, keys, way, x), chain);
-        Step { out: y, chain: x }
-    }
-}
-
-// Block j of a message: its first block is given, the others stand in the rest.
-fn block_of(first: [u8; 16], rest: &[u8], j: usize) -> [u8; 16]
-    requires { 16 * j ≤ length rest.now }
-    ensures { result ≡ take 16 (drop (16 * j) (first ++ rest.now)) }
-{
-    if j == 0 {
-        return first;
-    }
-    runs::block_at(rest, 16 * (j - 1))
-}
-
-// n blocks of a message through the chain to the front of the output, and the chain block behind them. The message is its first block and the rest.
-pub fn run_with(
-    sbox: &[u8],
-    table: &[u32],
-    keys: &[u8; 288],
-    way: Way,
-    chain: [u8; 16],
-    first: [u8; 16],
-    rest: &[u8],
+    message: &Message,
     out: &mut [u8],
     n: usize,
 ) -> [u8; 16]
-    requires { Lent way sbox.now table.now × LegalWay way × (16 * n ≤ 16 + length rest.now) × (16 * n ≤ length out.old) }
-    ensures { cbc.Chained (E way keys.now) (D way keys.now) way.direction chain (first ++ rest.now) out.old n result out.new }
+    requires { (16 * n ≤ length message.now) × (16 * n ≤ length out.old) }
+    ensures last { result ≡ last_or chain (cbc_encryption (E.of e.now keys.now) chain (blocks n message.now)) }
+    ensures out { out.new ≡ join (cbc_encryption (E.of e.now keys.now) chain (blocks n message.now)) ++ drop (16 * n) out.old }
 {
     let mut last = chain;
-    let mut j = 0;
-    while j < n {
-        let at = 16 * j;
-        let x = block_of(first, rest, j);
-        let t = chained(sbox, table, keys, way, last, x);
-        let y = t.out;
-        runs::store(out, at, y);
-        let c = t.chain;
-        last = c;
-        j += 1;
+    for j in 0..n {
+        let x = message.block(j);
+        let y = e.block(keys, words::bytes::xor(x, last));
+        runs::store(out, 16 * j, y);
+        last = y;
     }
     last
 }
 
-// The chain block behind n blocks of a message that are enciphered; nothing is written.
-pub fn last_with(
-    sbox: &[u8],
-    table: &[u32],
+// The same for a message that is deciphered.
+pub fn decipher_with<D: BlockFunction>(
+    d: &D,
     keys: &[u8; 288],
-    way: Way,
     chain: [u8; 16],
-    first: [u8; 16],
-    rest: &[u8],
+    message: &Message,
+    out: &mut [u8],
     n: usize,
 ) -> [u8; 16]
-    requires { Lent way sbox.now table.now × LegalWay way × (way.direction ≡ 1) × (16 * n ≤ 16 + length rest.now) }
-    ensures { result ≡ cbc.chain (E way keys.now) 1 chain (cbc.blocks n (first ++ rest.now)) }
+    requires { (16 * n ≤ length message.now) × (16 * n ≤ length out.old) }
+    ensures last { result ≡ last_or chain (blocks n message.now) }
+    ensures out { out.new ≡ join (cbc_decryption (D.of d.now keys.now) chain (blocks n message.now)) ++ drop (16 * n) out.old }
 {
     let mut last = chain;
-    let mut i = 0;
-    while i < n {
-        let x = block_of(first, rest, i);
-        let y = enciphered(sbox, table, keys, way, words::bytes::xor16(x, last));
-        last = y;
-        i += 1;
+    for k in 0..n {
+        let x = message.block(k);
+        let y = words::bytes::xor(d.block(keys, x), last);
+        runs::store(out, 16 * k, y);
+        last = x;
+    }
+    last
+}
+
+// The chain block after n blocks of a message that are enciphered; nothing is written.
+pub fn last_with<E: BlockFunction>(
+    e: &E,
+    keys: &[u8; 288],
+    chain: [u8; 16],
+    message: &Message,
+    n: usize,
+) -> [u8; 16]
+    requires { 16 * n ≤ length message.now }
+    ensures { result ≡ last_or chain (cbc_encryption (E.of e.now keys.now) chain (blocks n message.now)) }
+{
+    let mut last = chain;
+    for i in 0..n {
+        let x = message.block(i);
+        let c = e.block(keys, words::bytes::xor(x, last));
+        last = c;
     }
     last
 }

@@ -1,15 +1,18 @@
-// Blocks under a cipher's round keys, with the tables lent that the cipher needs.
+// Blocks under a cipher's round keys, by a block function that has all else at hand.
 #![tactic(auto)]
 
 pub mod alone;
 pub mod chain;
+pub mod ciphers;
+pub mod message;
 
-ghost use Rattle.std.specs.Prelude.{◌≡◌};
-ghost use Rattle.blocks_lent.specs.Ways.{E, D, Lent, LegalWay};
+ghost use Rattle.std.specs.Prelude.{◌≡◌, List, ℕ, eqb};
+ghost use Rattle.noekeon_steps.specs.Rule.{rule, rule_of};
 
-use cipher_numbers::{E2, HIEROCRYPT3, NOEKEON};
+use cipher_numbers::NOEKEON;
+use noekeon_steps::Version;
 
-// What is done to a block: by which cipher, with a key of which length, in which direction.
+// What is done to a block: by which cipher, with a key of which length, in which direction. Cipher and direction are the numbers that C gives.
 #[derive(Clone, Copy)]
 pub struct Way {
     pub cipher: u64,
@@ -17,42 +20,24 @@ pub struct Way {
     pub direction: u64,
 }
 
-// One block enciphered, with the tables lent.
-pub fn enciphered(
-    sbox: &[u8],
-    table: &[u32],
-    keys: &[u8; 288],
-    way: Way,
-    block: [u8; 16],
-) -> [u8; 16]
-    requires { Lent way sbox.now table.now × LegalWay way × (way.direction ≡ 1) }
-    ensures { result ≡ E way keys.now block }
-{
-    if way.cipher == HIEROCRYPT3 {
-        return hierocrypt3::block::encipher_with(sbox, table, keys, way.length, block);
+impl Way {
+    // Which Noekeon it is, where it is one.
+    pub fn noekeon(self) -> Version
+        ensures { rule_of result ≡ rule (eqb self.cipher 3) }
+    {
+        if self.cipher == NOEKEON {
+            Version::Published
+        } else {
+            Version::Earlier
+        }
     }
-    if way.cipher == E2 {
-        return e2::encipher_with(sbox, keys, block);
-    }
-    noekeon::encipher_with(way.cipher == NOEKEON, table, keys, block)
 }
 
-// One block deciphered, with the tables lent.
-pub fn deciphered(
-    sbox: &[u8],
-    table: &[u32],
-    keys: &[u8; 288],
-    way: Way,
-    block: [u8; 16],
-) -> [u8; 16]
-    requires { Lent way sbox.now table.now × LegalWay way × (way.direction ≡ 1 → ⊥) }
-    ensures { result ≡ D way keys.now block }
-{
-    if way.cipher == HIEROCRYPT3 {
-        return hierocrypt3::block::decipher_with(sbox, table, keys, way.length, block);
-    }
-    if way.cipher == E2 {
-        return e2::decipher_with(sbox, keys, block);
-    }
-    noekeon::decipher_with(way.cipher == NOEKEON, table, keys, block)
+// A cipher in one direction, with all that a block takes beside the round keys: what it makes of a block.
+pub trait BlockFunction {
+    // By the round keys and the block.
+    ghost of: { Self → List ℕ → List ℕ → List ℕ };
+
+    fn block(&self, keys: &[u8; 288], block: [u8; 16]) -> [u8; 16]
+        ensures { result ≡ of self.now keys.now block };
 }

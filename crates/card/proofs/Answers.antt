@@ -1,6 +1,6 @@
 -- The answers of the three calls: one law for each outcome, in the order in which the code comes to it.
-use mathlib.Core.Path.{◌≡◌, refl, sym, ap, ap₂, ◌∙◌, subst}
-use mathlib.Core.Bool.{Bool, true, false, not, ◌&&◌, and-true, and-false, true≢false}
+use mathlib.Core.Path.{◌≡◌, refl, sym, ap, ap₂, ◌∙◌}
+use mathlib.Core.Bool.{Bool, true, false, not, ◌&&◌, and-true, and-false}
 use mathlib.Core.List.{List, [], ◌∷◌}
 use Prim.Native.Nat.{ℕ, ◌*◌, ◌/◌, ◌%◌, ◌≤◌, ◌<◌}
 use native.Mathlib.Omega.{arith}
@@ -15,6 +15,8 @@ use Rattle.card_slots.specs.Slot.{empty, recipe, segment, legal, illegal, good_r
 use Rattle.card_slots.specs.Card.{slot, slots, every, some, pairs, none_twice, good}
 use Rattle.card_slots.specs.Find.{place, named, found, find_part, find_at}
 use Rattle.card.specs.Put.{namesake, goes_to, nowhere, put_answer, written, put_card}
+use Rattle.std.specs.Prelude.{Some, None}
+use Rattle.card_keys.specs.declared.Keys.{Keys}
 use Rattle.card_keys.specs.code.Keys.{InOrder, Apart}
 use Rattle.card.specs.code.Order.{JudgesInOrder}
 use Rattle.card_slots.proofs.Rules.{record_16}
@@ -54,23 +56,30 @@ module _ (card : List ℕ) where
       good_legal h f = rw (eq-eqb _ _ a, le-leb _ _ b, every_some legal (slots card), has_not illegal card x e h) f
 
 -- judged with the keys of its slots in order
-pub judged_bad : (card keys : List ℕ) → false ≡ good card → JudgesInOrder card false 0 keys
-judged_bad card keys e = record { answered = e; few = omega arith; ordered = λ z. absurd (true≢false (sym z)) }
+pub judged_bad : (card : List ℕ) → false ≡ good card → JudgesInOrder card None
+judged_bad card e = record { answered = e; ordered = tt }
 
-module _ (card : List ℕ) (a : length card % 16 ≡ 0) (b : length card ≤ 4096) (x : ℕ) (e : x ≡ place illegal (slots card)) (h : length card / 16 ≤ x) where
+module _ (card : List ℕ) (a : length card % 16 ≡ 0) (b : length card ≤ 4096) (x : ℕ) (e : x ≡ place illegal (slots card)) (h : length card / 16 ≤ x)
+    (keys : Keys) (w : InOrder card keys.places keys.len) (r : Bool) (apart : Apart (take keys.len keys.places) r) where
   all_legal : every legal (slots card) ≡ true
   all_legal = every_some legal (slots card) ∙ ap not (has_not illegal card x e h)
 
-  pub judged_ordered : (keys : List ℕ) (n m : ℕ) → m ≡ n → n ≤ length keys → InOrder card keys n → (r : Bool) → Apart (take m keys) r → JudgesInOrder card r n keys
-  judged_ordered keys n m z l w r v =
-      let few : length card / 16 ≤ 256 = omega arith in
-      let apart : Apart (take n keys) r = subst (λ (k : ℕ). Apart (take k keys) r) z v in
-      let long = length-take-le n keys l in
+  few : length card / 16 ≤ 256
+  few = omega arith
+
+  good_is : r ≡ good card
+  good_is = good_legal card a b x e h (apart_none card (take keys.len keys.places) w.sorted all_legal few apart)
+
+  pub judged_twice : r ≡ false → JudgesInOrder card None
+  judged_twice z = judged_bad card (sym z ∙ good_is)
+
+  pub judged_ordered : length keys.places ≡ 256 → r ≡ true → JudgesInOrder card (Some keys)
+  judged_ordered long z =
       let most = w.few in
+      let l = length-take-le keys.len keys.places (omega arith) in
       record {
-        answered = good_legal card a b x e h (apart_none card (take n keys) w.sorted all_legal few apart);
-        few = w.few;
-        ordered = apart_ordered card (take n keys) w.sorted all_legal few apart (omega arith);
+        answered = sym z ∙ good_is;
+        ordered = apart_ordered card (take keys.len keys.places) w.sorted all_legal few apart (omega arith) z;
       }
 
 -- ---- finding

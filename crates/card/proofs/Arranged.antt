@@ -22,7 +22,7 @@ use Rattle.card_keys.specs.code.Keys.{key_of, keys_from, Neighbours, Apart}
 use Rattle.card.specs.code.Order.{Ordered}
 use Rattle.card_slots.proofs.Slots.{slots_length, slots_at}
 use Rattle.card_slots.proofs.Named.{named_pair, named_not_empty, named_self}
-use Rattle.card_keys.proofs.Keys.{key_times, times_key, key_slot, key_once}
+use Rattle.card_keys.proofs.Collected.{key_times, times_key, key_slot, key_once}
 use Rattle.card_slots.proofs.Twice.{some_at, at_some, every_at, again, twice_cons}
 
 -- ---- two slots with one pair

@@ -8,6 +8,7 @@ ghost use Rattle.card.specs.code.Order.{Ordered};
 ghost use Rattle.card_compare.specs.Compare.{differences};
 ghost use Rattle.card_compare.specs.code.Merge as spec;
 
+// The mark's byte as it is in the list (02, request 6). No enum: with 0 for no change it is laid and counted without a branch.
 const ONLY_FIRST: u8 = 1;
 
 const ONLY_SECOND: u8 = 2;
@@ -34,9 +35,9 @@ fn same_slot(first: &[u8], second: &[u8], k: u32, l: u32) -> bool
 {
     let i = (k % 256) as usize;
     let j = (l % 256) as usize;
-    let one = runs::block_at(first, i * 16);
-    let two = runs::block_at(second, j * 16);
-    let differences = words::bytes::xor16(one, two);
+    let one: [u8; 16] = runs::part(first, i * 16);
+    let two: [u8; 16] = runs::part(second, j * 16);
+    let differences = words::bytes::xor(one, two);
     runs::zero_from(&differences, 0)
 }
 
@@ -58,19 +59,13 @@ fn mark(first: &[u8], second: &[u8], a: &[u32], b: &[u32], i: usize, j: usize, x
     OTHER_CONTENTS
 }
 
-fn lesser(x: u32, y: u32) -> u32
-    ensures { (result ≤ x) × (result ≤ y) × ((result < x) → result ≡ y) }
-{
-    if x < y { x } else { y }
-}
-
 fn one_if(yes: bool) -> usize
     ensures { (result ≤ 1) × (result ≡ choose yes 1 0) }
 {
-    if yes { 1 } else { 0 }
+    usize::from(yes)
 }
 
-// The changes at the front of `list`: how many.
+// The changes at the front of `list`: how many. (A `while`: two places go forward, each by its own steps.)
 pub fn changes(first: &[u8], second: &[u8], a: &[u32], b: &[u32], list: &mut [u32]) -> usize
     requires { (good first.now ≡ true) × (good second.now ≡ true) × Ordered first.now a.now × Ordered second.now b.now
         × (length list.old ≡ 512) }
@@ -82,7 +77,7 @@ pub fn changes(first: &[u8], second: &[u8], a: &[u32], b: &[u32], list: &mut [u3
     while i + j < a.len() + b.len() {
         let x = number(a, i);
         let y = number(b, j);
-        let z = lesser(x, y);
+        let z = x.min(y);
         let m = mark(first, second, a, b, i, j, x, y);
         list[n] = z * 256 + m as u32;
         n += one_if(m != 0);

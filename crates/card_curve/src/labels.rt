@@ -1,159 +1,102 @@
 // The peak's disc, and the labels of peak and holds.
-use crate::lines::Moment;
+ghost use Rattle.std.specs.Prelude.{◌≤◌};
+
+use crate::lines::{Moment, Step, Steps};
 use crate::scale::Scale;
-use crate::{lines, scale};
-use card_fields::Fields;
-use wording::{fill, words};
+use card_segments::Segments;
+use wording::Text;
 
-// How far from the line a label's degrees and its minutes stand, above it or below.
+// On which side of the line a label stands, and how far from it its degrees and its minutes.
 #[derive(Clone, Copy)]
-struct Beside {
-    above: bool,
-    degrees: u64,
-    minutes: u64,
+enum Side {
+    Above,
+    Below,
 }
 
-const ABOVE: Beside = Beside {
-    above: true,
-    degrees: 44,
-    minutes: 16,
-};
-
-const BELOW: Beside = Beside {
-    above: false,
-    degrees: 34,
-    minutes: 62,
-};
-
-fn side(from: u16, to: u16) -> Beside {
-    if to < from {
-        return BELOW;
+impl Side {
+    fn of(step: Step) -> Side {
+        if step.there.tenths < step.from.tenths {
+            Side::Below
+        } else {
+            Side::Above
+        }
     }
-    ABOVE
+
+    fn degrees(self, y: u64) -> u64
+        requires { y ≤ 800 }
+    {
+        match self {
+            Side::Above => y.saturating_sub(44),
+            Side::Below => y + 34,
+        }
+    }
+
+    fn minutes(self, y: u64) -> u64
+        requires { y ≤ 800 }
+    {
+        match self {
+            Side::Above => y.saturating_sub(16),
+            Side::Below => y + 62,
+        }
+    }
 }
 
-fn line(y: u64, above: bool, far: u64) -> u64 {
-    if !above {
-        return y % 1024 + far % 1024;
-    }
-    if y < far {
-        return 0;
-    }
-    y - far
-}
-
-fn disc(out: &mut [u8], at: usize, scale: Scale, m: Moment, peak: bool) -> usize {
-    if !peak {
-        return at;
-    }
-    let x = scale::x(scale, m.seconds as u64);
-    let y = scale::y(scale, m.tenths as u64);
-    fill(out, at, b"<circle cx=\"$\" cy=\"$\" r=\"9\"/>\n", &[x, y])
+fn disc(out: &mut Text, scale: Scale, m: Moment) {
+    let x = scale.x(m.seconds);
+    let y = scale.y(u32::from(m.tenths));
+    out.fill(b"<circle cx=\"$\" cy=\"$\" r=\"9\"/>\n", &[x, y]);
 }
 
 // A text that ends at x, with degrees in it.
-fn degrees(out: &mut [u8], at: usize, x: u64, y: u64, tenths: u64, peak: bool) -> usize {
-    if peak {
-        return fill(
-            out,
-            at,
-            b"<text x=\"$\" y=\"$\">peak ~</text>\n",
-            &[x, y, tenths],
-        );
-    }
-    fill(
-        out,
-        at,
-        b"<text x=\"$\" y=\"$\">~</text>\n",
-        &[x, y, tenths],
-    )
+fn degrees(out: &mut Text, x: u64, y: u64, tenths: u16, peak: bool) {
+    let text: &[u8] = if peak {
+        b"<text x=\"$\" y=\"$\">peak ~</text>\n"
+    } else {
+        b"<text x=\"$\" y=\"$\">~</text>\n"
+    };
+    out.fill(text, &[x, y, u64::from(tenths)]);
 }
 
-// The label of a hold that ends at a moment.
-fn hold(
-    out: &mut [u8],
-    at: usize,
-    scale: Scale,
-    m: Moment,
-    b: Beside,
-    n: u64,
-    peak: bool,
-) -> usize {
-    let x = scale::x(scale, m.seconds as u64);
-    let y = scale::y(scale, m.tenths as u64);
-    let said = degrees(
-        out,
-        at,
-        x,
-        line(y, b.above, b.degrees),
-        m.tenths as u64,
-        peak,
-    );
-    fill(
-        out,
-        said,
+// The label of a hold.
+fn hold(out: &mut Text, scale: Scale, step: Step, peak: bool) {
+    let x = scale.x(step.end.seconds);
+    let y = scale.y(u32::from(step.end.tenths));
+    let side = Side::of(step);
+    degrees(out, x, side.degrees(y), step.end.tenths, peak);
+    out.fill(
         b"<text x=\"$\" y=\"$\">$ min</text>\n",
-        &[x, line(y, b.above, b.minutes), n],
-    )
+        &[x, side.minutes(y), u64::from(step.fields.hold)],
+    );
 }
 
 // The label of a peak that isn't held.
-fn touched(out: &mut [u8], at: usize, scale: Scale, m: Moment) -> usize {
-    let x = scale::x(scale, m.seconds as u64);
-    let y = scale::y(scale, m.tenths as u64);
-    degrees(out, at, x, line(y, true, 16), m.tenths as u64, true)
+fn touched(out: &mut Text, scale: Scale, m: Moment) {
+    let x = scale.x(m.seconds);
+    let y = scale.y(u32::from(m.tenths));
+    degrees(out, x, y.saturating_sub(16), m.tenths, true);
 }
 
-// A segment's disc and label. `before`: the peak was not reached before.
-fn label(out: &mut [u8], from: usize, scale: Scale, now: Moment, f: Fields, before: bool) -> usize {
-    let there = lines::reached(now, f);
-    let peak = before & (f.target == scale.peak);
-    let at = disc(out, from, scale, there, peak);
-    if f.hold > 0 {
-        let b = side(now.tenths, f.target);
-        return hold(
-            out,
-            at,
-            scale,
-            lines::behind(now, f),
-            b,
-            f.hold as u64,
-            peak,
-        );
-    }
+// A segment's disc and label.
+fn label(out: &mut Text, scale: Scale, step: Step, peak: bool) {
     if peak {
-        return touched(out, at, scale, there);
+        disc(out, scale, step.there);
     }
-    at
+    if step.fields.hold > 0 {
+        hold(out, scale, step, peak);
+    } else if peak {
+        touched(out, scale, step.there);
+    }
 }
 
-pub fn draw(
-    out: &mut [u8],
-    from: usize,
-    card: &[u8],
-    keys: &[u32],
-    first: usize,
-    recipe: u16,
-    scale: Scale,
-) -> usize {
-    let mut at = words(
-        out,
-        from,
+pub fn draw(out: &mut Text, segments: Segments, scale: Scale) {
+    out.words(
         b"<g fill=\"#202020\" stroke=\"#ffffff\" stroke-width=\"6\" paint-order=\"stroke\" stroke-linejoin=\"round\" text-anchor=\"end\">\n",
     );
-    let mut now = lines::BEGINNING;
-    let mut before = true;
-    let mut i = first;
-    while i < keys.len() {
-        let k = i;
-        i += 1;
-        if !card_segments::is_of(keys, k, recipe) {
-            break;
-        }
-        let f = card_segments::fields(card, keys, k);
-        at = label(out, at, scale, now, f, before);
-        before = before & (f.target != scale.peak);
-        now = lines::behind(now, f);
+    let mut reached = false;
+    for step in Steps::of(segments) {
+        let at_peak = step.there.tenths == scale.peak;
+        label(out, scale, step, at_peak && !reached);
+        reached = reached || at_peak;
     }
-    words(out, at, b"</g>\n")
+    out.words(b"</g>\n");
 }

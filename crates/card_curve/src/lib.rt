@@ -6,47 +6,35 @@ mod labels;
 mod lines;
 mod scale;
 
+use card_segments::Segments;
 use firing::Time;
 use scale::Scale;
-use wording::{fill, words};
+use wording::Text;
 
-fn opened(out: &mut [u8], recipe: u64, time: Time) -> usize {
-    let named = fill(
-        out,
-        0,
+fn title(out: &mut Text, recipe: u64, time: Time) {
+    out.fill(
         b"<svg xmlns=\"http://www.w3.org/2000/svg\" viewBox=\"0 0 1600 900\" font-family=\"sans-serif\" font-size=\"26\">\n<title>recipe $: ",
         &[recipe],
     );
-    card_words::time(out, named, time)
-}
-
-fn title(out: &mut [u8], at: usize, recipe: u64, time: Time) -> usize {
-    let named = fill(
-        out,
-        at,
+    card_words::time(out, time);
+    out.fill(
         b"</title>\n<rect width=\"1600\" height=\"900\" fill=\"#ffffff\"/>\n<text x=\"120\" y=\"48\" font-size=\"36\">recipe $</text>\n",
         &[recipe],
     );
-    let below = words(out, named, b"<text x=\"120\" y=\"92\" fill=\"#404040\">");
-    let timed = card_words::time(out, below, time);
-    words(out, timed, b"</text>\n")
+    out.words(b"<text x=\"120\" y=\"92\" fill=\"#404040\">");
+    card_words::time(out, time);
+    out.words(b"</text>\n");
 }
 
-// All but the curve and its labels.
-fn around_it(out: &mut [u8], recipe: u64, time: Time, scale: Scale) -> usize {
-    let begun = opened(out, recipe, time);
-    let titled = title(out, begun, recipe, time);
-    let legend = frame::legend(out, titled, time.cause != firing::SAID);
-    let grid = frame::grid(out, legend, scale);
-    frame::numbers(out, grid, scale)
-}
-
-// The recipe whose first segment is number `first` of the card's.
-pub fn draw(out: &mut [u8], card: &[u8], keys: &[u32], first: usize, recipe: u16) -> usize {
-    let time = firing::takes(card, keys, first, recipe);
-    let scale = scale::of(time);
-    let framed = around_it(out, recipe as u64, time, scale);
-    let drawn = lines::draw(out, framed, card, keys, first, recipe, scale);
-    let labelled = labels::draw(out, drawn, card, keys, first, recipe, scale);
-    words(out, labelled, b"</svg>\n")
+// The segments are those of the recipe.
+pub fn draw(out: &mut Text, recipe: u16, segments: Segments) {
+    let time = firing::takes(segments);
+    let scale = Scale::of(time);
+    title(out, u64::from(recipe), time);
+    frame::legend(out, time.unsaid.is_some());
+    frame::grid(out, scale);
+    frame::numbers(out, scale);
+    lines::draw(out, segments, scale);
+    labels::draw(out, segments, scale);
+    out.words(b"</svg>\n");
 }

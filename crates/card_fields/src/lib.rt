@@ -4,7 +4,7 @@
 ghost use Rattle.std.specs.Prelude.{◌≡◌};
 ghost use Rattle.card_fields.specs.Fields.{Has, Laid, slot_of, slot_at};
 
-use card_slots::slot;
+use card_slots::slot::Slot;
 
 pub const CLIMB: u8 = 1;
 
@@ -26,13 +26,14 @@ pub struct Fields {
 pub fn of(slot: [u8; 16]) -> Fields
     ensures { Has slot result }
 {
+    let slot = Slot { bytes: &slot };
     Fields {
-        recipe: slot::recipe(&slot),
-        segment: slot::segment(&slot),
-        kind: slot::kind(&slot),
-        target: slot::target(&slot),
-        rate: slot::rate(&slot),
-        hold: slot::hold(&slot),
+        recipe: slot.recipe(),
+        segment: slot.segment(),
+        kind: slot.kind(),
+        target: slot.target(),
+        rate: slot.rate(),
+        hold: slot.hold(),
     }
 }
 
@@ -40,32 +41,23 @@ pub fn laid(f: Fields) -> [u8; 16]
     ensures laid { Laid f result }
     ensures value { result ≡ slot_of f }
 {
+    let recipe = f.recipe.to_be_bytes();
+    let target = f.target.to_be_bytes();
+    let rate = f.rate.to_be_bytes();
+    let hold = f.hold.to_be_bytes();
     [
-        (f.recipe / 256) as u8,
-        (f.recipe % 256) as u8,
-        f.segment,
-        f.kind,
-        (f.target / 256) as u8,
-        (f.target % 256) as u8,
-        (f.rate / 256) as u8,
-        (f.rate % 256) as u8,
-        (f.hold / 256) as u8,
-        (f.hold % 256) as u8,
-        0,
-        0,
-        0,
-        0,
-        0,
-        0,
+        recipe[0], recipe[1], f.segment, f.kind, target[0], target[1], rate[0], rate[1], hold[0],
+        hold[1], 0, 0, 0, 0, 0, 0,
     ]
 }
 
 // Slot i of a card, or zeros where the card has no such slot.
+#[tactic(auto, unfolding(crate::specs::Fields::slot_at))]
 pub fn slot(card: &[u8], i: usize) -> [u8; 16]
     ensures { result ≡ slot_at card.now i }
 {
     if i < card.len() / 16 {
-        return runs::block_at(card, i * 16);
+        return runs::part(card, i * 16);
     }
     [0u8; 16]
 }

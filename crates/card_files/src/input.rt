@@ -1,33 +1,36 @@
 // What the arguments hold: cards and numbers.
-use recipe_words::files::Laid;
+ghost use Rattle.std.specs.Prelude.{IfSome};
+ghost use Rattle.io.specs.Counts.{IsPrefixLen};
+
 use recipe_words::{arguments, files, outcome};
+use refusals::Refusal;
 use spelling::number;
-use spelling::number::Spelled;
 
 pub const CARD: usize = 2;
 
-// The card of an argument.
-pub fn card(rt: &HostRuntime, argument: usize, space: &mut [u8]) -> Laid {
-    files::whole(rt, argument, b"card", true, space)
+// How many bytes the card of an argument has, at the front of the space.
+pub fn card(rt: &HostRuntime, argument: usize, space: &mut [u8]) -> Option<usize>
+    ensures { IfSome result (λ n. IsPrefixLen n space.new) }
+{
+    files::whole(rt, argument, "card", true, space)
 }
 
 // Is the card good? A bad one is refused.
-pub fn is_good(rt: &HostRuntime, card: &[u8], about: &[u8]) -> bool {
+pub fn is_good(rt: &HostRuntime, card: &[u8], about: &str) -> bool {
     if card::good(card) {
         return true;
     }
-    outcome::refused(rt, refusals::BAD_CARD, about, 0);
+    outcome::refused(rt, Refusal::BadCard, about, 0);
     false
 }
 
 // The whole number that an argument spells.
-pub fn whole(rt: &HostRuntime, argument: usize, about: &[u8]) -> Spelled {
+pub fn whole(rt: &HostRuntime, argument: usize, about: &str) -> Option<u64> {
     let mut space = [0u8; 4096];
     let n = arguments::lay(rt, argument, &mut space);
-    let spelled = number::whole(&space[..n]);
-    if !spelled.ok {
-        outcome::say(rt, b"failed number ");
-        outcome::end(rt, about);
+    let number = number::whole(&space[..n]);
+    if number.is_none() {
+        outcome::tell(rt, format_args!("failed number {about}"));
     }
-    spelled
+    number
 }

@@ -1,20 +1,14 @@
 // A comparison: the first of its refusals that applies.
 ghost use Rattle.std.specs.Prelude.{◌≡◌};
+ghost use Rattle.refusals.specs.Numbers.{number};
 ghost use Rattle.refusals.specs.Refusals.{compare_order};
 
-use refusals::{BAD_CARD, DONE, NO_ROOM};
+use refusals::{Answer, Refusal, refuse_if};
 
-pub fn first(one: bool, two: bool, room: bool) -> u8
-    ensures { result ≡ compare_order one two room }
+pub fn first(one: bool, two: bool, room: bool) -> Answer
+    ensures { number result ≡ compare_order one two room }
 {
-    if one {
-        return BAD_CARD;
-    }
-    if two {
-        return BAD_CARD;
-    }
-    if room {
-        return NO_ROOM;
-    }
-    DONE
+    refuse_if(one, Refusal::BadCard)?;
+    refuse_if(two, Refusal::BadCard)?;
+    refuse_if(room, Refusal::NoRoom)
 }

@@ -1,55 +1,59 @@
 -- A record that is legal but for one field: this field alone decides.
-use mathlib.Core.Path.{◌≡◌, refl, sym, ap, ◌∙◌}
+use mathlib.Core.Path.{◌≡◌, sym, ap, ◌∙◌}
 use mathlib.Core.Bool.{Bool, true, false, and-true, and-false}
+use lib.Dec.{leb}
 use mathlib.Core.List.{List}
 use Prim.Native.Nat.{ℕ, ◌+◌, ◌≤◌, ◌<◌}
 use native.Mathlib.Omega.{arith}
 use lib.ListN.{length, get_or, get_or-replicate}
-use borrow.Author.Tests.{ne_eqb, le-leb, lt-leb}
-use Rattle.laws.specs.Choice.{choose}
+use borrow.Author.Tests.{le-leb, lt-leb}
 use Rattle.laws.proofs.Test.{fails}
 use Rattle.runs.proofs.All.{all_are}
 use Rattle.card_slots.specs.Slot.{empty, keeps_rules}
 use Rattle.card_fields.specs.declared.Fields.{Fields}
 use Rattle.card_fields.specs.Fields.{Laid}
+use Rattle.card_rules.specs.declared.Field.{Field}
+use Rattle.card_rules.specs.declared.Field.TheVariants.{Recipe, Segment, Target, Rate, Hold}
 use Rattle.card_rules.specs.Rules.{is_kind, may_be}
 use Rattle.card_rules.specs.code.LegalElse.{all_may_be, JudgedLaid, LegalElse}
 use Rattle.card_rules.proofs.FieldByField.{kept_field_by_field}
 
 -- ---- one number
-either_way : (b : Bool) → choose b false false ≡ false
-either_way true = refl
-either_way false = refl
-
-pub over_two_bytes : (field n : ℕ) → 65535 < n → may_be field n ≡ false
+pub over_two_bytes : (field : Field) (n : ℕ) → 65535 < n → may_be field n ≡ false
 unfolding may_be
-over_two_bytes field n h = simp (lt-leb n 65535 h, lt-leb n 32 (omega arith), lt-leb n 13500 (omega arith), and-false, either_way)
-
-rate_or_hold : (field n : ℕ) → (field ≡ 0 → ⊥) → (field ≡ 1 → ⊥) → (field ≡ 2 → ⊥) → n ≤ 65535 → may_be field n ≡ true
-unfolding may_be
-rate_or_hold field n x y z h = rw (ne_eqb _ _ x, ne_eqb _ _ y, ne_eqb _ _ z, le-leb _ _ h)
+over_two_bytes Recipe n h = rw (lt-leb n 65535 h) (and-false (leb 1 n))
+over_two_bytes Segment n h = rw (lt-leb n 32 (omega arith)) (and-false (leb 1 n))
+over_two_bytes Target n h = lt-leb n 13500 (omega arith)
+over_two_bytes Rate n h = lt-leb n 65535 h
+over_two_bytes Hold n h = lt-leb n 65535 h
 
 -- ---- the other fields may be what they are
-pub kind_decides : (f : Fields) → may_be 0 f.recipe ≡ true → may_be 1 f.segment ≡ true → may_be 2 f.target ≡ true → all_may_be f ≡ is_kind f.kind
+pub kind_decides : (f : Fields) → may_be Recipe f.recipe ≡ true → may_be Segment f.segment ≡ true → may_be Target f.target ≡ true
+    → all_may_be f ≡ is_kind f.kind
 unfolding all_may_be
 kind_decides f a b d = rw (a, b, d) (and-true (is_kind f.kind))
 
-module _ (f : Fields) (field n : ℕ) (climb : f.kind ≡ 1) where
-  pub recipe_decides : field ≡ 0 → f.recipe ≡ n → may_be 1 f.segment ≡ true → may_be 2 f.target ≡ true → LegalElse field n f
+module _ (f : Fields) (n : ℕ) (climb : f.kind ≡ 1) where
+  pub recipe_decides : f.recipe ≡ n → may_be Segment f.segment ≡ true → may_be Target f.target ≡ true → LegalElse Recipe n f
   unfolding all_may_be
-  recipe_decides e r b d = record { climb = climb; decided = rw (b, climb, d, r, e) (simp and-true) }
+  recipe_decides r b d = record { climb = climb; decided = rw (b, climb, d, r) (simp and-true) }
 
-  pub segment_decides : field ≡ 1 → may_be 1 f.segment ≡ may_be 1 n → may_be 0 f.recipe ≡ true → may_be 2 f.target ≡ true → LegalElse field n f
+  pub segment_decides : may_be Segment f.segment ≡ may_be Segment n → may_be Recipe f.recipe ≡ true → may_be Target f.target ≡ true → LegalElse Segment n f
   unfolding all_may_be
-  segment_decides e s a d = record { climb = climb; decided = rw (a, climb, d, s, e) (simp and-true) }
+  segment_decides s a d = record { climb = climb; decided = rw (a, climb, d, s) (simp and-true) }
 
-  pub target_decides : field ≡ 2 → f.target ≡ n → may_be 0 f.recipe ≡ true → may_be 1 f.segment ≡ true → LegalElse field n f
+  pub target_decides : f.target ≡ n → may_be Recipe f.recipe ≡ true → may_be Segment f.segment ≡ true → LegalElse Target n f
   unfolding all_may_be
-  target_decides e t a b = record { climb = climb; decided = rw (a, b, climb, t, e) }
+  target_decides t a b = record { climb = climb; decided = rw (a, b, climb, t) }
 
   -- a rate and a hold of two bytes always may be
-  pub none_decides : (field ≡ 0 → ⊥) → (field ≡ 1 → ⊥) → (field ≡ 2 → ⊥) → n ≤ 65535 → all_may_be f ≡ true → LegalElse field n f
-  none_decides x y z h e = record { climb = climb; decided = e ∙ sym (rate_or_hold field n x y z h) }
+  pub rate_decides : n ≤ 65535 → all_may_be f ≡ true → LegalElse Rate n f
+  unfolding may_be
+  rate_decides h e = record { climb = climb; decided = e ∙ sym (le-leb n 65535 h) }
+
+  pub hold_decides : n ≤ 65535 → all_may_be f ≡ true → LegalElse Hold n f
+  unfolding may_be
+  hold_decides h e = record { climb = climb; decided = e ∙ sym (le-leb n 65535 h) }
 
 -- ---- a slot that is laid from fields that are not all zero
 module _ {f : Fields} {s : List ℕ} (w : Laid f s) where

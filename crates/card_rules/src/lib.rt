@@ -3,22 +3,40 @@
 #![tactic(auto)]
 
 ghost use Rattle.std.specs.Prelude.{◌≡◌};
+ghost use Rattle.card_rules.specs.declared.Field.TheVariants.{Segment};
 ghost use Rattle.card_rules.specs.Rules.{is_kind, may_be, in_tenths};
 ghost use Rattle.card_rules.specs.code.LegalElse.{JudgedLaid, LegalElse};
 
 use card_fields::{Fields, laid};
-use wording::fill;
+use wording::Text;
 
 // The fields that hold numbers.
-pub const RECIPE: u8 = 0;
+#[derive(Clone, Copy)]
+pub enum Field {
+    Recipe,
+    Segment,
+    Target,
+    Rate,
+    Hold,
+}
 
-pub const SEGMENT: u8 = 1;
+// By its number; any that no other field has is the hold's.
+impl From<u8> for Field {
+    ghost use Rattle.std.specs.Prelude.{◌≡◌};
+    ghost use Rattle.card_rules.specs.Rules.{field_of};
 
-pub const TARGET: u8 = 2;
+    ghost from_gives = { λ number field. field ≡ field_of number };
 
-pub const RATE: u8 = 3;
-
-pub const HOLD: u8 = 4;
+    fn from(number: u8) -> Self {
+        match number {
+            0 => Field::Recipe,
+            1 => Field::Segment,
+            2 => Field::Target,
+            3 => Field::Rate,
+            _ => Field::Hold,
+        }
+    }
+}
 
 const LEGAL: Fields = Fields {
     recipe: 1,
@@ -39,14 +57,12 @@ fn keeps_rules(f: Fields) -> bool
 pub fn is_kind(kind: u8) -> bool
     ensures { result ≡ is_kind kind }
 {
-    let mut f = LEGAL;
-    f.kind = kind;
-    keeps_rules(f)
+    keeps_rules(Fields { kind, ..LEGAL })
 }
 
 // At most 255, which no segment may be.
 fn byte(value: u16) -> u8
-    ensures { may_be 1 result ≡ may_be 1 value }
+    ensures { may_be Segment result ≡ may_be Segment value }
 {
     if value > 255 {
         return 255;
@@ -55,43 +71,56 @@ fn byte(value: u16) -> u8
 }
 
 // A legal record with this number in this field.
-fn with(field: u8, value: u16) -> Fields
+fn with(field: Field, value: u16) -> Fields
     ensures { LegalElse field value result }
 {
-    let mut f = LEGAL;
     match field {
-        RECIPE => f.recipe = value,
-        SEGMENT => f.segment = byte(value),
-        TARGET => f.target = value,
-        RATE => f.rate = value,
-        _ => f.hold = value,
+        Field::Recipe => Fields {
+            recipe: value,
+            ..LEGAL
+        },
+        Field::Segment => Fields {
+            segment: byte(value),
+            ..LEGAL
+        },
+        Field::Target => Fields {
+            target: value,
+            ..LEGAL
+        },
+        Field::Rate => Fields {
+            rate: value,
+            ..LEGAL
+        },
+        Field::Hold => Fields {
+            hold: value,
+            ..LEGAL
+        },
     }
-    f
 }
 
 // May the field hold this number? One over 65535 has no place in any.
-pub fn may_be(field: u8, value: u64) -> bool
+pub fn may_be(field: Field, value: u64) -> bool
     ensures { result ≡ may_be field value }
 {
-    if value > 65535 {
-        return false;
+    match u16::try_from(value) {
+        Ok(number) => keeps_rules(with(field, number)),
+        Err(_) => false,
     }
-    keeps_rules(with(field, value as u16))
 }
 
-pub fn is_in_tenths(field: u8) -> bool
+pub fn is_in_tenths(field: Field) -> bool
     ensures { result ≡ in_tenths field }
 {
-    (field == TARGET) | (field == RATE)
+    matches!(field, Field::Target | Field::Rate)
 }
 
 // The field, the number that it may not be, and the rule.
-pub fn broken(out: &mut [u8], at: usize, field: u8, value: u64) -> usize {
+pub fn broken(out: &mut Text, field: Field, value: u64) {
     match field {
-        RECIPE => fill(out, at, b"recipe $ is not from 1 to 65535", &[value]),
-        SEGMENT => fill(out, at, b"segment $ is not from 1 to 32", &[value]),
-        TARGET => fill(out, at, b"target ~ is over 1350.0", &[value]),
-        RATE => fill(out, at, b"rate ~ is over 6553.5", &[value]),
-        _ => fill(out, at, b"hold $ is over 65535", &[value]),
+        Field::Recipe => out.fill(b"recipe $ is not from 1 to 65535", &[value]),
+        Field::Segment => out.fill(b"segment $ is not from 1 to 32", &[value]),
+        Field::Target => out.fill(b"target ~ is over 1350.0", &[value]),
+        Field::Rate => out.fill(b"rate ~ is over 6553.5", &[value]),
+        Field::Hold => out.fill(b"hold $ is over 65535", &[value]),
     }
 }

@@ -5,63 +5,55 @@ use mathlib.Core.List.{List, [], ◌∷◌}
 use Prim.Native.Nat.{ℕ, suc, ◌+◌, ◌-◌, ◌≤◌, ◌<◌}
 use native.Mathlib.Omega.{arith}
 use lib.ListN.{length, take, drop, get_or}
-use lib.Seq.{take_all, drop-drop}
-use borrow.Author.Tests.{eq-eqb, ne_eqb, le-leb}
-use Rattle.runs.proofs.Same.{same_length}
+use lib.Dec.{eqb}
+use borrow.Author.Tests.{eq-eqb, ne_eqb, eqb-true}
+use Rattle.laws.specs.Choice.{choose}
 use Rattle.spelling.specs.Word.{spells}
-use Rattle.cells.specs.Cells.{part, before_blanks, ended, bare, cell, cells, all_good, text_of}
+use Rattle.cells.specs.Cells.{before_blanks, ended, bare, cell, cells, all_good, text_of}
 use Rattle.card_table.specs.Table.{behind_mark, lines, without_return, header, spell_header, is_header, read_as, with_lines, from_lines, read_table}
 use Rattle.card_table.specs.code.Line.{line_of}
-use Rattle.card_table.proofs.Lines.{first_line, line_part}
+use Rattle.card_table.proofs.Lines.{first_line}
 
 -- ---- a byte-order mark
-pub no_mark_short : (t : List ℕ) → length t < 3 → t ≡ behind_mark t
+pub mark : (t : List ℕ) → 3 ≤ length t → get_or t 0 0 ≡ 239 → get_or t 1 0 ≡ 187 → get_or t 2 0 ≡ 191 → drop 3 t ≡ behind_mark t
 unfolding behind_mark
-no_mark_short t h =
-    let e : take 3 t ≡ t = take_all 3 t (omega arith) in
-    rw (e, same_length t (239 ∷ 187 ∷ 191 ∷ []) (λ n. omega arith))
+mark [] h a b c = refl
+mark (x ∷ []) h a b c = absurd (omega arith)
+mark (x ∷ y ∷ []) h a b c = absurd (omega arith)
+mark (x ∷ y ∷ z ∷ t) h a b c = rw (eq-eqb x 239 a, eq-eqb y 187 b, eq-eqb z 191 c)
 
-pub no_mark_1 : (t : List ℕ) → 3 ≤ length t → (get_or t 0 0 ≡ 239 → ⊥) → t ≡ behind_mark t
+pub no_mark : (t : List ℕ) → (3 ≤ length t → get_or t 0 0 ≡ 239 → get_or t 1 0 ≡ 187 → get_or t 2 0 ≡ 191 → ⊥) → t ≡ behind_mark t
 unfolding behind_mark
-no_mark_1 [] h n = refl
-no_mark_1 (a ∷ t) h n = rw (ne_eqb a 239 n)
-
-pub no_mark_2 : (t : List ℕ) → 3 ≤ length t → (get_or t 1 0 ≡ 187 → ⊥) → get_or t 0 0 ≡ 239 → t ≡ behind_mark t
-unfolding behind_mark
-no_mark_2 [] h n a = refl
-no_mark_2 (x ∷ []) h n a = absurd (omega arith)
-no_mark_2 (x ∷ y ∷ t) h n a = rw (eq-eqb x 239 a, ne_eqb y 187 n)
-
-pub no_mark_3 : (t : List ℕ) → 3 ≤ length t → (get_or t 2 0 ≡ 191 → ⊥) → get_or t 0 0 ≡ 239 → get_or t 1 0 ≡ 187 → t ≡ behind_mark t
-unfolding behind_mark
-no_mark_3 [] h n a b = refl
-no_mark_3 (x ∷ []) h n a b = absurd (omega arith)
-no_mark_3 (x ∷ y ∷ []) h n a b = absurd (omega arith)
-no_mark_3 (x ∷ y ∷ z ∷ t) h n a b = rw (eq-eqb x 239 a, eq-eqb y 187 b, ne_eqb z 191 n)
-
-pub mark : (t : List ℕ) → 3 ≤ length t → get_or t 2 0 ≡ 191 → get_or t 0 0 ≡ 239 → get_or t 1 0 ≡ 187 → drop 3 t ≡ behind_mark t
-unfolding behind_mark
-mark [] h c a b = refl
-mark (x ∷ []) h c a b = absurd (omega arith)
-mark (x ∷ y ∷ []) h c a b = absurd (omega arith)
-mark (x ∷ y ∷ z ∷ t) h c a b = rw (eq-eqb x 239 a, eq-eqb y 187 b, eq-eqb z 191 c)
+no_mark [] n = refl
+no_mark (x ∷ []) n = go (eqb x 239)
+  where
+    go : (a : Bool) → x ∷ [] ≡ choose (choose a false false) [] (x ∷ [])
+    go true = refl
+    go false = refl
+no_mark (x ∷ y ∷ []) n = go (eqb x 239) (eqb y 187)
+  where
+    go : (a b : Bool) → x ∷ y ∷ [] ≡ choose (choose a (choose b false false) false) [] (x ∷ y ∷ [])
+    go true true = refl
+    go true false = refl
+    go false b = refl
+no_mark (x ∷ y ∷ z ∷ t) n = go (eqb x 239) refl (eqb y 187) refl (eqb z 191) refl
+  where
+    go : (a : Bool) → eqb x 239 ≡ a → (b : Bool) → eqb y 187 ≡ b → (c : Bool) → eqb z 191 ≡ c
+        → x ∷ y ∷ z ∷ t ≡ choose (choose a (choose b (choose c true false) false) false) t (x ∷ y ∷ z ∷ t)
+    go true p true q true r = absurd (n (omega arith) (eqb-true x 239 p) (eqb-true y 187 q) (eqb-true z 191 r))
+    go true p true q false r = refl
+    go true p false q c r = refl
+    go false p b q c r = refl
 
 -- ---- a carriage return at the end
-module _ (w : List ℕ) where
-  pub return_taken_off : 0 < length w → get_or w (length w - 1) 0 ≡ 13 → part 0 (length w - 1) w ≡ without_return w
-  unfolding part without_return
-  return_taken_off h e =
-      let z : length w - 1 - 0 ≡ length w - 1 = omega arith in
-      rw (le-leb (length w - 1) (length w) (omega arith), eq-eqb (get_or w (length w - 1) 0) 13 e, z)
-
-  pub no_return : (get_or w (length w - 1) 0 ≡ 13 → ⊥) → w ≡ without_return w
-  unfolding without_return
-  no_return n = rw (ne_eqb (get_or w (length w - 1) 0) 13 n)
-
-pub nothing_to_take_off : (w : List ℕ) → length w ≤ 0 → w ≡ without_return w
+pub return_taken_off : (w : List ℕ) → get_or w (length w - 1) 0 ≡ 13 → take (length w - 1) w ≡ without_return w
 unfolding without_return
-nothing_to_take_off [] h = refl
-nothing_to_take_off (c ∷ w) h = absurd (omega arith)
+return_taken_off w e = rw (eq-eqb (get_or w (length w - 1) 0) 13 e)
+
+pub no_return : (w : List ℕ) → (1 ≤ length w → get_or w (length w - 1) 0 ≡ 13 → ⊥) → w ≡ without_return w
+unfolding without_return
+no_return [] n = refl
+no_return (c ∷ w) n = rw (ne_eqb (get_or (c ∷ w) (length (c ∷ w) - 1) 0) 13 (n (omega arith)))
 
 -- ---- the header's cells, from number k on
 module _ (line : List ℕ) (k : ℕ) where
@@ -107,19 +99,14 @@ module _ (card : List ℕ) where
   no_first_line [] e = refl
   no_first_line (c ∷ t) e = sym (ap (from_lines card) (first_line c t) ∙ rw e)
 
-  module _ (t : List ℕ) (begin end : ℕ) (m : drop begin t ≡ behind_mark t) (e : end ≡ begin + length (line_of (drop begin t)))
-      {line : List ℕ} (l : line ≡ without_return (part begin end t)) where
-    its_header : {b : Bool} → is_header line ≡ b → is_header (without_return (line_of (drop begin t))) ≡ b
-    its_header h = sym (ap is_header (l ∙ ap without_return (ap (λ (k : ℕ). part begin k t) e ∙ line_part t begin))) ∙ h
-
+  module _ (t : List ℕ) {text : List ℕ} (m : text ≡ behind_mark t) {line : List ℕ} (l : line ≡ without_return (line_of text)) where
     pub header_wrong : is_header line ≡ false → read_as false 0 card ≡ read_table t card
     unfolding read_table
-    header_wrong h = no_first_line (drop begin t) (its_header h) ∙ ap (λ (u : List ℕ). from_lines card (lines u)) m
+    header_wrong h = no_first_line text (sym (ap is_header l) ∙ h) ∙ ap (λ (u : List ℕ). from_lines card (lines u)) m
 
-    pub header_right : is_header line ≡ true → with_lines (read_as true 0 card) (lines (drop (end + 1) t)) ≡ read_table t card
+    pub header_right : {rest : List ℕ} → rest ≡ drop (suc (length (line_of text))) text → is_header line ≡ true
+        → with_lines (read_as true 0 card) (lines rest) ≡ read_table t card
     unfolding read_table
-    header_right h =
-        let n : end + 1 ≡ begin + suc (length (line_of (drop begin t))) = omega arith in
-        ap (λ (u : List ℕ). with_lines (read_as true 0 card) (lines u))
-        (ap (λ (k : ℕ). drop k t) n ∙ sym (drop-drop (suc (length (line_of (drop begin t)))) begin t))
-        ∙ by_first_line (drop begin t) (its_header h) ∙ ap (λ (u : List ℕ). from_lines card (lines u)) m
+    header_right r h =
+        ap (λ (u : List ℕ). with_lines (read_as true 0 card) (lines u)) r
+        ∙ by_first_line text (sym (ap is_header l) ∙ h) ∙ ap (λ (u : List ℕ). from_lines card (lines u)) m

@@ -1,16 +1,15 @@
 -- The lines of a text: the first one, cut off as the code does it, and those behind it.
-use mathlib.Core.Path.{◌≡◌, refl, sym, ap, ap₂, ◌∙◌}
+use mathlib.Core.Path.{◌≡◌, refl, ap, ◌∙◌}
 use mathlib.Core.Bool.{Bool, true, false}
 use mathlib.Core.List.{List, [], ◌∷◌}
-use Prim.Native.Nat.{ℕ, suc, ◌+◌, ◌-◌, ◌≤◌, ◌<◌}
+use Prim.Native.Nat.{ℕ, suc, ◌+◌, ◌≤◌, ◌<◌}
 use native.Mathlib.Omega.{arith}
 use native.Mathlib.Numerals.{add-one}
-use lib.Dec.{eqb, leb}
+use lib.Dec.{eqb}
 use lib.ListN.{length, take, drop, get_or, length-drop, drop_of_length-le}
-use lib.Seq.{drop-cons, drop-drop}
-use borrow.Author.Tests.{eq-eqb, ne_eqb, le-leb, lt-leb, leb-true, leb-false}
+use lib.Seq.{drop-cons}
+use borrow.Author.Tests.{eq-eqb, ne_eqb}
 use Rattle.laws.specs.Choice.{choose}
-use Rattle.cells.specs.Cells.{part}
 use Rattle.card_table.specs.Table.{in_front, lines}
 use Rattle.card_table.specs.code.Line.{line_of}
 
@@ -24,11 +23,11 @@ pub first_line : (c : ℕ) (t : List ℕ) → lines (c ∷ t) ≡ line_of (c ∷
 first_line c [] = by_feed c [] (eqb c 10) refl
 first_line c (d ∷ t) = by_feed c (d ∷ t) (eqb c 10) (ap (in_front c) (first_line d t))
 
-some_line : (l : List ℕ) → 0 < length l → lines l ≡ line_of l ∷ lines (drop (suc (length (line_of l))) l)
-some_line [] h = absurd (omega arith)
-some_line (c ∷ t) h = first_line c t
+pub next_line : (l : List ℕ) → 0 < length l → lines l ≡ line_of l ∷ lines (drop (suc (length (line_of l))) l)
+next_line [] h = absurd (omega arith)
+next_line (c ∷ t) h = first_line c t
 
-pub line_within : (l : List ℕ) → length (line_of l) ≤ length l
+line_within : (l : List ℕ) → length (line_of l) ≤ length l
 line_within [] = omega arith
 line_within (c ∷ t) = go (eqb c 10) (line_within t)
   where
@@ -55,33 +54,19 @@ module _ (t : List ℕ) (i : ℕ) where
   pub feed_none : length t ≤ i → length (line_of (drop i t)) ≡ 0
   feed_none h = rw (drop_of_length-le)
 
-  pub line_part : part i (i + length (line_of (drop i t))) t ≡ line_of (drop i t)
-  unfolding part
-  line_part = go (leb i (length t)) refl
-    where
-      go : (b : Bool) → leb i (length t) ≡ b → part i (i + length (line_of (drop i t))) t ≡ line_of (drop i t)
-      go true e =
-          let h = leb-true i (length t) e in
-          let w = line_within (drop i t) in
-          let d = length-drop i t in
-          let n : i + length (line_of (drop i t)) - i ≡ length (line_of (drop i t)) = omega arith in
-          rw (le-leb (i + length (line_of (drop i t))) (length t) (omega arith), n) (line_in_front (drop i t))
-      go false e =
-          let h = leb-false i (length t) e in
-          rw (lt-leb (i + length (line_of (drop i t))) (length t) (omega arith), drop_of_length-le t {i = i} (omega arith))
+  -- the loop has come to place i, and all before it is of the first line
+  module _ (e : i + length (line_of (drop i t)) ≡ length (line_of t)) where
+    pub cut_here : i < length t → get_or t i 0 ≡ 10 → i ≡ length (line_of t)
+    cut_here h f = let n = feed_here h f in omega arith
 
-  pub end_within : i ≤ length t → i + length (line_of (drop i t)) ≤ length t
-  end_within h =
-      let w = line_within (drop i t) in
-      let d = length-drop i t in
-      omega arith
+    pub cut_none : length t ≤ i → length t ≡ length (line_of t)
+    cut_none h =
+        let n = feed_none h in
+        let w = line_within t in
+        omega arith
 
-  -- the line that begins at i, and the lines behind it
-  module _ (h : i < length t) (end : ℕ) (e : end ≡ i + length (line_of (drop i t))) where
-    pub next_line : lines (drop i t) ≡ part i end t ∷ lines (drop (end + 1) t)
-    next_line =
-        let d = length-drop i t in
-        let n : i + suc (length (line_of (drop i t))) ≡ end + 1 = omega arith in
-        some_line (drop i t) (omega arith)
-        ∙ ap₂ (λ (l : List ℕ) (ls : List (List ℕ)). l ∷ ls) (sym line_part ∙ ap (λ (k : ℕ). part i k t) (sym e))
-        (ap lines (drop-drop (suc (length (line_of (drop i t)))) i t ∙ ap (λ (k : ℕ). drop k t) n))
+pub line_taken : (t : List ℕ) (i : ℕ) → i ≡ length (line_of t) → take i t ≡ line_of t
+line_taken t i e = ap (λ (k : ℕ). take k t) e ∙ line_in_front t
+
+pub fewer : (t : List ℕ) → 0 < length t → length (drop (suc (length (line_of t))) t) < length t
+fewer t h = let d = length-drop (suc (length (line_of t))) t in omega arith

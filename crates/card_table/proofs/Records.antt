@@ -18,8 +18,9 @@ use Rattle.card_fields.specs.Fields.{slot_of}
 use Rattle.card_fields.specs.declared.Fields.{Fields}
 use Rattle.cells.specs.Cells.{cells, all_good, any_filled, text_of}
 use Rattle.record_words.specs.Record.{number_in, kind_of, record_of}
-use Rattle.record_words.specs.declared.record.Field.{Field}
-use Rattle.card_table.specs.Table.{record_in, Read, read_as, wrong, with_record, with_line}
+use Rattle.card_rules.specs.declared.Field.TheVariants.{Recipe, Segment, Target, Rate, Hold}
+use Rattle.std.proofs.Common.{Option, Some, None}
+use Rattle.card_table.specs.Table.{record_in, Read, read_as, wrong, with_record, with_fields, with_line}
 
 nothing_empty : (l : List ℕ) → length l ≤ 0 → empty l ≡ true
 unfolding empty
@@ -59,9 +60,9 @@ module _ (r : Read) (f : Fields) where
     record_put n = rw (e, eq-eqb (put_answer r.card (slot_of f)) done n)
 
 -- ---- a line
-module _ (line : List ℕ) (a b k d e h : Field) where
-  pub record_is : a ≡ number_in 0 (text_of (cells line) 0) → b ≡ number_in 1 (text_of (cells line) 1) → k ≡ kind_of (text_of (cells line) 2)
-      → d ≡ number_in 2 (text_of (cells line) 3) → e ≡ number_in 3 (text_of (cells line) 4) → h ≡ number_in 4 (text_of (cells line) 5)
+module _ (line : List ℕ) (a b k d e h : Option ℕ) where
+  pub record_is : a ≡ number_in Recipe (text_of (cells line) 0) → b ≡ number_in Segment (text_of (cells line) 1) → k ≡ kind_of (text_of (cells line) 2)
+      → d ≡ number_in Target (text_of (cells line) 3) → e ≡ number_in Rate (text_of (cells line) 4) → h ≡ number_in Hold (text_of (cells line) 5)
       → record_of a b k d e h ≡ record_in line
   unfolding record_in
   record_is ea eb ek ed ee eh = rw (ea, eb, ek, ed, ee, eh)
@@ -82,13 +83,13 @@ module _ (r : Read) (line : List ℕ) where
       not_six_fields n = rw (g, s, ne_eqb (length (cells line)) 6 n)
 
       module _ (n : length (cells line) ≡ 6) where
-        pub wrong_field : (record_in line).ok ≡ false → wrong r ≡ with_line r line
+        pub wrong_field : None ≡ record_in line → wrong r ≡ with_line r line
         unfolding with_line
-        wrong_field w = rw (g, s, eq-eqb (length (cells line)) 6 n, w)
+        wrong_field w = rw (g, s, eq-eqb (length (cells line)) 6 n, ← w)
 
-        pub right_fields : (record_in line).ok ≡ true → with_record r (record_in line).fields ≡ with_line r line
+        pub right_fields : {f : Fields} → Some f ≡ record_in line → with_record r f ≡ with_line r line
         unfolding with_line
-        right_fields w = rw (g, s, eq-eqb (length (cells line)) 6 n, w)
+        right_fields w = rw (g, s, eq-eqb (length (cells line)) 6 n, ← w)
 
 -- ---- a line has one record at most
 with_record_few : (r : Read) (f : Fields) → (with_record r f).records ≤ r.records + 1
@@ -100,14 +101,16 @@ with_record_few r f = go (found r.card (f.recipe, f.segment)) (eqb (put_answer r
     go false true = omega arith
     go false false = omega arith
 
+with_fields_few : (r : Read) (f : Option Fields) → (with_fields r f).records ≤ r.records + 1
+with_fields_few r None = omega arith
+with_fields_few r (Some f) = with_record_few r f
+
 pub with_line_few : (r : Read) (line : List ℕ) → (with_line r line).records ≤ r.records + 1
 unfolding with_line
-with_line_few r line = go (all_good (cells line)) (any_filled (cells line)) (eqb (length (cells line)) 6) (record_in line).ok
+with_line_few r line = go (all_good (cells line)) (any_filled (cells line)) (eqb (length (cells line)) 6)
   where
-    go : (a b d e : Bool)
-        → (choose a (choose b (choose d (choose e (with_record r (record_in line).fields) (wrong r)) (wrong r)) r) (wrong r)).records ≤ r.records + 1
-    go false b d e = omega arith
-    go true false d e = omega arith
-    go true true false e = omega arith
-    go true true true false = omega arith
-    go true true true true = with_record_few r (record_in line).fields
+    go : (a b d : Bool) → (choose a (choose b (choose d (with_fields r (record_in line)) (wrong r)) r) (wrong r)).records ≤ r.records + 1
+    go false b d = omega arith
+    go true false d = omega arith
+    go true true false = omega arith
+    go true true true = with_fields_few r (record_in line)

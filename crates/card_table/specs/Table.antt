@@ -1,5 +1,5 @@
 -- What a table says, line by line (docs/BENCH.md, 'The table'). Characters are ASCII numbers: line feed 10, carriage return 13.
-use Rattle.std.specs.Prelude.{Bool, true, false, ◌&&◌, List, [], ◌∷◌, ℕ, zero, suc, ◌+◌, ◌-◌, eqb, length, take, drop, get_or}
+use Rattle.std.specs.Prelude.{Option, Some, None, Bool, true, false, ◌&&◌, List, [], ◌∷◌, ℕ, zero, suc, ◌+◌, ◌-◌, eqb, length, take, drop, get_or}
 use Rattle.laws.specs.Choice.{choose}
 use Rattle.runs.specs.Same.{same}
 use Rattle.refusals.specs.Refusals.{done}
@@ -10,7 +10,7 @@ use Rattle.card_fields.specs.declared.Fields.{Fields}
 use Rattle.spelling.specs.Word.{spells}
 use Rattle.cells.specs.Cells.{cells, all_good, any_filled, text_of}
 use Rattle.record_words.specs.Record.{number_in, kind_of, record_of}
-use Rattle.record_words.specs.declared.record.Record.{Record}
+use Rattle.card_rules.specs.declared.Field.TheVariants.{Recipe, Segment, Target, Rate, Hold}
 
 -- ---- lines
 -- behind a byte-order mark
@@ -47,10 +47,10 @@ unfoldable pub is_header : List ℕ → Bool
 is_header line = all_good (cells line) && eqb (length (cells line)) 6 && spell_header line 0 6
 
 -- ---- a line's record
-unfoldable pub record_in : List ℕ → Record
+unfoldable pub record_in : List ℕ → Option Fields
 record_in line =
-    record_of (number_in 0 (text_of (cells line) 0)) (number_in 1 (text_of (cells line) 1)) (kind_of (text_of (cells line) 2))
-    (number_in 2 (text_of (cells line) 3)) (number_in 3 (text_of (cells line) 4)) (number_in 4 (text_of (cells line) 5))
+    record_of (number_in Recipe (text_of (cells line) 0)) (number_in Segment (text_of (cells line) 1)) (kind_of (text_of (cells line) 2))
+    (number_in Target (text_of (cells line) 3)) (number_in Rate (text_of (cells line) 4)) (number_in Hold (text_of (cells line) 5))
 
 -- ---- what was read so far: whether every line was right, how many records were put, and the card
 pub record Read : Type 0 where
@@ -72,13 +72,16 @@ with_record r f =
     (read_as r.good (r.records + 1) (put_card r.card (slot_of f)))
     (wrong r))
 
+-- a record, if every field is right
+abbrev pub with_fields : Read → Option Fields → Read
+with_fields r None = wrong r
+with_fields r (Some f) = with_record r f
+
 -- a line: with a quote out of place, with nothing in it, with other than six fields, with a wrong field, or a record's
 unfoldable pub with_line : Read → List ℕ → Read
 with_line r line =
     choose (all_good (cells line))
-    (choose (any_filled (cells line))
-    (choose (eqb (length (cells line)) 6) (choose (record_in line).ok (with_record r (record_in line).fields) (wrong r)) (wrong r))
-    r)
+    (choose (any_filled (cells line)) (choose (eqb (length (cells line)) 6) (with_fields r (record_in line)) (wrong r)) r)
     (wrong r)
 
 abbrev pub with_lines : Read → List (List ℕ) → Read

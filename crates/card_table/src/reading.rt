@@ -1,68 +1,54 @@
 // A table read onto a card: every line put by the proved call.
-ghost use Rattle.std.specs.Prelude.{◌≡◌, true, false, ◌+◌, ◌≤◌, ◌<◌, length, drop};
+ghost use Rattle.std.specs.Prelude.{◌≡◌, true, false, ◌<◌, suc, length, drop};
 ghost use Rattle.card_table.specs.Table as page;
 ghost use Rattle.card_table.specs.code.Line.{line_of};
 ghost use Rattle.card_table.specs.code.State.{read_of};
-ghost use Rattle.cells.specs.Cells.{part as cells_part};
 
 use card_fields::{Fields, laid};
-use cells::{part, text};
-use record_words::record::Record;
+use card_rules::Field;
+use cells::text;
 use record_words::{named, record};
 use spelling::word;
 
 // Whether every line was right, and how many records were put.
-#[derive(Drop)]
+// A flag with a number beside it: the promise of `read` tells how many were put of a table with a wrong line too.
+#[derive(Clone, Copy)]
 pub struct Table {
     pub good: bool,
     pub records: usize,
 }
 
-// The place behind a byte-order mark, or the beginning.
-fn behind_mark(table: &[u8]) -> usize
-    ensures { (drop result table.now ≡ page.behind_mark table.now) × (result ≤ length table.now) }
+// What follows a byte-order mark, or all.
+fn without_mark(table: &[u8]) -> &[u8]
+    ensures { result.now ≡ page.behind_mark table.now }
 {
-    if table.len() < 3 {
-        return 0;
+    match table {
+        [239, 187, 191, rest @ ..] => rest,
+        _ => table,
     }
-    if table[0] != 239 {
-        return 0;
-    }
-    if table[1] != 187 {
-        return 0;
-    }
-    if table[2] != 191 {
-        return 0;
-    }
-    3
 }
 
-// The place of the next line feed, or the end.
-fn line_feed(table: &[u8], from: usize) -> usize
-    ensures { result ≡ from + length (line_of (drop from table.now)) }
+// The first line, and what follows its line feed.
+fn first_line(text: &[u8]) -> (&[u8], &[u8])
+    ensures line { result.0.now ≡ line_of text.now }
+    ensures rest { result.1.now ≡ drop (suc (length (line_of text.now))) text.now }
 {
-    let mut i = from;
-    while i < table.len() {
-        if table[i] == b'\n' {
-            return i;
+    for (i, c) in text.iter().enumerate() {
+        if *c == b'\n' {
+            return (&text[..i], &text[i + 1..]);
         }
-        i += 1;
     }
-    i
+    (text, &text[text.len()..])
 }
 
-// The line between two places, without a carriage return at its end.
-fn line(table: &[u8], from: usize, to: usize) -> &[u8]
-    ensures { result.now ≡ page.without_return (cells_part from to table.now) }
+// A line without a carriage return at its end.
+fn without_return(line: &[u8]) -> &[u8]
+    ensures { result.now ≡ page.without_return line.now }
 {
-    let whole = part(table, from, to);
-    let n = whole.len();
-    if n > 0 {
-        if whole[n - 1] == b'\r' {
-            return part(whole, 0, n - 1);
-        }
+    match line {
+        [front @ .., b'\r'] => front,
+        _ => line,
     }
-    whole
 }
 
 fn is_header(line: &[u8]) -> bool
@@ -76,32 +62,28 @@ fn is_header(line: &[u8]) -> bool
         return false;
     }
     let header = b"recipe,segment,kind,target,rate,hold";
-    let mut k: usize = 0;
-    while k < 6 {
+    for k in 0..6 {
         if !word::is(text(line, k), text(header, k)) {
             return false;
         }
-        k += 1;
     }
     true
 }
 
 // The line on which the record of these fields' pair stands.
 fn line_of(card: &[u8], lines: &[usize], f: Fields) -> usize {
-    let mut i: usize = 0;
-    while i < lines.len() {
+    for (i, line) in lines.iter().enumerate() {
         let other = card_fields::at(card, i);
-        if (other.recipe == f.recipe) & (other.segment == f.segment) {
-            return lines[i];
+        if other.recipe == f.recipe && other.segment == f.segment {
+            return *line;
         }
-        i += 1;
     }
     0
 }
 
 fn note(lines: &mut [usize], n: usize, number: usize) {
-    if n < lines.len() {
-        lines[n] = number;
+    if let Some(line) = lines.get_mut(n) {
+        *line = number;
     }
 }
 
@@ -111,7 +93,7 @@ fn already(rt: &impl Print, card: &[u8], lines: &[usize], number: usize, f: Fiel
         rt,
         number,
         b"recipe $ segment $ stands on line $ already",
-        &[f.recipe as u64, f.segment as u64, earlier],
+        &[u64::from(f.recipe), u64::from(f.segment), earlier],
     );
 }
 
@@ -120,11 +102,11 @@ fn wrong(before: Table) -> Table
 {
     Table {
         good: false,
-        records: before.records,
+        ..before
     }
 }
 
-// A record put behind those that are there, if its pair is new and there is room.
+// A record put after those that are there, if its pair is new and there is room.
 #[tactic(auto, unfolding(crate::specs::Table::with_record, card_slots::specs::Find::find_part))]
 fn put(
     rt: &impl Print,
@@ -141,7 +123,7 @@ fn put(
         already(rt, card, lines, number, f);
         return wrong(before);
     }
-    if card::put(card, &laid(f)) != refusals::DONE {
+    if card::put(card, &laid(f)).is_err() {
         named::plain(
             rt,
             number,
@@ -157,15 +139,15 @@ fn put(
 }
 
 // The record of a line of six cells, if all of them are right.
-fn record_of(rt: &impl Print, number: usize, line: &[u8]) -> Record
+fn record_of(rt: &impl Print, number: usize, line: &[u8]) -> Option<Fields>
     ensures { result ≡ page.record_in line.now }
 {
-    let recipe = record::number(rt, number, card_rules::RECIPE, text(line, 0));
-    let segment = record::number(rt, number, card_rules::SEGMENT, text(line, 1));
+    let recipe = record::number(rt, number, Field::Recipe, text(line, 0));
+    let segment = record::number(rt, number, Field::Segment, text(line, 1));
     let kind = record::kind(rt, number, text(line, 2));
-    let target = record::number(rt, number, card_rules::TARGET, text(line, 3));
-    let rate = record::number(rt, number, card_rules::RATE, text(line, 4));
-    let hold = record::number(rt, number, card_rules::HOLD, text(line, 5));
+    let target = record::number(rt, number, Field::Target, text(line, 3));
+    let rate = record::number(rt, number, Field::Rate, text(line, 4));
+    let hold = record::number(rt, number, Field::Hold, text(line, 5));
     record::of(recipe, segment, kind, target, rate, hold)
 }
 
@@ -198,40 +180,38 @@ fn row(
         );
         return wrong(before);
     }
-    let record = record_of(rt, number, line);
-    if !record.ok {
-        return wrong(before);
+    match record_of(rt, number, line) {
+        Some(f) => put(rt, card, lines, before, number, f),
+        None => wrong(before),
     }
-    put(rt, card, lines, before, number, record.fields)
 }
 
-// The lines from a place on, which stand behind the header.
-fn rows(rt: &impl Print, table: &[u8], from: usize, card: &mut [u8], lines: &mut [usize]) -> Table
-    requires { 1 ≤ from }
-    ensures { read_of result card.new ≡ page.with_lines (page.read_as true 0 card.old) (page.lines (drop from table.now)) }
+// The lines that follow the header.
+fn rows(rt: &impl Print, table: &[u8], card: &mut [u8], lines: &mut [usize]) -> Table
+    ensures { read_of result card.new ≡ page.with_lines (page.read_as true 0 card.old) (page.lines table.now) }
 {
     let mut read = Table {
         good: true,
         records: 0,
     };
-    let mut number: usize = 1;
-    let mut at = from;
-    while at < table.len() {
-        let end = line_feed(table, at);
+    let mut number = 1;
+    let mut rest = table;
+    while !rest.is_empty() {
+        let (line, more) = first_line(rest);
         number += 1;
-        read = row(rt, card, lines, read, number, line(table, at, end));
-        at = end + 1;
+        read = row(rt, card, lines, read, number, without_return(line));
+        rest = more;
     }
     read
 }
 
-// The table's records put on the card. `lines` gets the line that each stands on.
+// The table's records put on the card. `lines` gets the line that each stands on: it is beside the card, whose bytes alone the
+// promise names, and both are the caller's, as no heap may be used.
 pub fn read(rt: &impl Print, table: &[u8], card: &mut [u8], lines: &mut [usize]) -> Table
     ensures { read_of result card.new ≡ page.read_table table.now card.old }
 {
-    let begin = behind_mark(table);
-    let end = line_feed(table, begin);
-    if !is_header(line(table, begin, end)) {
+    let (header, rest) = first_line(without_mark(table));
+    if !is_header(without_return(header)) {
         named::plain(
             rt,
             1,
@@ -242,5 +222,5 @@ pub fn read(rt: &impl Print, table: &[u8], card: &mut [u8], lines: &mut [usize])
             records: 0,
         };
     }
-    rows(rt, table, end + 1, card, lines)
+    rows(rt, rest, card, lines)
 }

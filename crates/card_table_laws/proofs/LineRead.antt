@@ -17,11 +17,12 @@ use Rattle.card_slots.specs.Slot.{recipe, segment, kind, target, rate, hold_minu
 use Rattle.card_fields.specs.Fields.{slot_of}
 use Rattle.card_rules.specs.Rules.{is_kind, may_be}
 use Rattle.card_rules.proofs.FieldByField.{kept_field_by_field, any_rate_and_hold}
-use Rattle.spelling.specs.Number.{spelled}
+use Rattle.std.proofs.Common.{Some}
+use Rattle.card_rules.specs.declared.Field.{Field}
+use Rattle.card_rules.specs.declared.Field.TheVariants.{Recipe, Segment, Target, Rate, Hold}
 use Rattle.spelling.specs.Word.{small}
 use Rattle.cells.specs.Cells.{cells, text_of}
-use Rattle.record_words.specs.Record.{right, spelled_in, number_in, kind_of, record_of}
-use Rattle.record_words.specs.declared.record.Record.{Record}
+use Rattle.record_words.specs.Record.{spelled_in, number_in, kind_of, record_of}
 use Rattle.card_table.specs.Table.{record_in, Read, with_record, with_line}
 use Rattle.wording.specs.Numbers.{decimal, in_tenths}
 use Rattle.card_fields.specs.Kinds.{kind_text}
@@ -64,15 +65,15 @@ line_no_break s =
     (decimal_no_break (hold_minutes s))
 
 -- ---- a field
-number_right : (field n : ℕ) (text : List ℕ) → spelled_in field text ≡ spelled n → may_be field n ≡ true → number_in field text ≡ right n
+number_right : (field : Field) (n : ℕ) (text : List ℕ) → spelled_in field text ≡ Some n → may_be field n ≡ true → number_in field text ≡ Some n
 unfolding number_in
 number_right field n text e m = rw (e, m)
 
-kind_right : (k : ℕ) → is_kind k ≡ true → kind_of (kind_text k) ≡ right k
+kind_right : (k : ℕ) → is_kind k ≡ true → kind_of (kind_text k) ≡ Some k
 unfolding kind_of kind_text small
 kind_right k e = go k (not_below 1 3 k e) (not_above 1 3 k e)
   where
-    go : (k : ℕ) → 1 ≤ k → k ≤ 3 → kind_of (kind_text k) ≡ right k
+    go : (k : ℕ) → 1 ≤ k → k ≤ 3 → kind_of (kind_text k) ≡ Some k
     go zero a b = absurd (omega arith)
     go (suc zero) a b = refl
     go (suc (suc zero)) a b = refl
@@ -114,32 +115,32 @@ module _ (s : List ℕ) (bytes : Bytes 16 s) where
 
 -- ---- the rules, one by one
 module _ (s : List ℕ) (kept : keeps_rules s ≡ true) where
-  all_five : (may_be 0 (recipe s) && may_be 1 (segment s) && is_kind (kind s) && may_be 2 (target s) && zeros (rest s)) ≡ true
+  all_five : (may_be Recipe (recipe s) && may_be Segment (segment s) && is_kind (kind s) && may_be Target (target s) && zeros (rest s)) ≡ true
   all_five = sym (kept_field_by_field s) ∙ kept
 
-  first_four : (may_be 0 (recipe s) && may_be 1 (segment s) && is_kind (kind s) && may_be 2 (target s)) ≡ true
-  first_four = and_left (may_be 0 (recipe s) && may_be 1 (segment s) && is_kind (kind s) && may_be 2 (target s)) (zeros (rest s)) all_five
+  first_four : (may_be Recipe (recipe s) && may_be Segment (segment s) && is_kind (kind s) && may_be Target (target s)) ≡ true
+  first_four = and_left (may_be Recipe (recipe s) && may_be Segment (segment s) && is_kind (kind s) && may_be Target (target s)) (zeros (rest s)) all_five
 
-  first_three : (may_be 0 (recipe s) && may_be 1 (segment s) && is_kind (kind s)) ≡ true
-  first_three = and_left (may_be 0 (recipe s) && may_be 1 (segment s) && is_kind (kind s)) (may_be 2 (target s)) first_four
+  first_three : (may_be Recipe (recipe s) && may_be Segment (segment s) && is_kind (kind s)) ≡ true
+  first_three = and_left (may_be Recipe (recipe s) && may_be Segment (segment s) && is_kind (kind s)) (may_be Target (target s)) first_four
 
-  first_two : (may_be 0 (recipe s) && may_be 1 (segment s)) ≡ true
-  first_two = and_left (may_be 0 (recipe s) && may_be 1 (segment s)) (is_kind (kind s)) first_three
+  first_two : (may_be Recipe (recipe s) && may_be Segment (segment s)) ≡ true
+  first_two = and_left (may_be Recipe (recipe s) && may_be Segment (segment s)) (is_kind (kind s)) first_three
 
-  recipe_kept : may_be 0 (recipe s) ≡ true
-  recipe_kept = and_left (may_be 0 (recipe s)) (may_be 1 (segment s)) first_two
+  recipe_kept : may_be Recipe (recipe s) ≡ true
+  recipe_kept = and_left (may_be Recipe (recipe s)) (may_be Segment (segment s)) first_two
 
-  segment_kept : may_be 1 (segment s) ≡ true
-  segment_kept = and_right (may_be 0 (recipe s)) (may_be 1 (segment s)) first_two
+  segment_kept : may_be Segment (segment s) ≡ true
+  segment_kept = and_right (may_be Recipe (recipe s)) (may_be Segment (segment s)) first_two
 
   pub kind_kept : is_kind (kind s) ≡ true
-  kind_kept = and_right (may_be 0 (recipe s) && may_be 1 (segment s)) (is_kind (kind s)) first_three
+  kind_kept = and_right (may_be Recipe (recipe s) && may_be Segment (segment s)) (is_kind (kind s)) first_three
 
-  target_kept : may_be 2 (target s) ≡ true
-  target_kept = and_right (may_be 0 (recipe s) && may_be 1 (segment s) && is_kind (kind s)) (may_be 2 (target s)) first_four
+  target_kept : may_be Target (target s) ≡ true
+  target_kept = and_right (may_be Recipe (recipe s) && may_be Segment (segment s) && is_kind (kind s)) (may_be Target (target s)) first_four
 
   nothing_behind : zeros (rest s) ≡ true
-  nothing_behind = and_right (may_be 0 (recipe s) && may_be 1 (segment s) && is_kind (kind s) && may_be 2 (target s)) (zeros (rest s)) all_five
+  nothing_behind = and_right (may_be Recipe (recipe s) && may_be Segment (segment s) && is_kind (kind s) && may_be Target (target s)) (zeros (rest s)) all_five
 
 -- ---- the line of a slot that keeps the rules
 module _ (s : List ℕ) (bytes : Bytes 16 s) (kept : keeps_rules s ≡ true) where
@@ -147,46 +148,46 @@ module _ (s : List ℕ) (bytes : Bytes 16 s) (kept : keeps_rules s ≡ true) whe
   two_bytes_small : (at : ℕ) → at + 1 < 16 → get_or s at 0 * 256 + get_or s (at + 1) 0 < 65536
   two_bytes_small at h = let a = bytes.each at (omega arith) in let b = bytes.each (at + 1) h in omega arith
 
-  recipe_read : number_in 0 (text_of (cells (line_of s)) 0) ≡ right (recipe s)
+  recipe_read : number_in Recipe (text_of (cells (line_of s)) 0) ≡ Some (recipe s)
   unfolding spelled_in
   recipe_read =
       let h = two_bytes_small 0 (omega arith) in
-      ap (number_in 0) (line_cells s).text_0
-      ∙ number_right 0 (recipe s) (decimal (recipe s)) (whole-decimal (recipe s) (omega arith)) (recipe_kept s kept)
+      ap (number_in Recipe) (line_cells s).text_0
+      ∙ number_right Recipe (recipe s) (decimal (recipe s)) (whole-decimal (recipe s) (omega arith)) (recipe_kept s kept)
 
-  segment_read : number_in 1 (text_of (cells (line_of s)) 1) ≡ right (segment s)
+  segment_read : number_in Segment (text_of (cells (line_of s)) 1) ≡ Some (segment s)
   unfolding spelled_in
   segment_read =
       let h = bytes.each 2 (omega arith) in
-      ap (number_in 1) (line_cells s).text_1
-      ∙ number_right 1 (segment s) (decimal (segment s)) (whole-decimal (segment s) (omega arith)) (segment_kept s kept)
+      ap (number_in Segment) (line_cells s).text_1
+      ∙ number_right Segment (segment s) (decimal (segment s)) (whole-decimal (segment s) (omega arith)) (segment_kept s kept)
 
-  kind_read : kind_of (text_of (cells (line_of s)) 2) ≡ right (kind s)
+  kind_read : kind_of (text_of (cells (line_of s)) 2) ≡ Some (kind s)
   kind_read = ap kind_of (line_cells s).text_2 ∙ kind_right (kind s) (kind_kept s kept)
 
-  target_read : number_in 2 (text_of (cells (line_of s)) 3) ≡ right (target s)
+  target_read : number_in Target (text_of (cells (line_of s)) 3) ≡ Some (target s)
   unfolding spelled_in
   target_read =
       let h = two_bytes_small 4 (omega arith) in
-      ap (number_in 2) (line_cells s).text_3
-      ∙ number_right 2 (target s) (in_tenths (target s)) (tenths-in_tenths (target s) (omega arith)) (target_kept s kept)
+      ap (number_in Target) (line_cells s).text_3
+      ∙ number_right Target (target s) (in_tenths (target s)) (tenths-in_tenths (target s) (omega arith)) (target_kept s kept)
 
-  rate_read : number_in 3 (text_of (cells (line_of s)) 4) ≡ right (rate s)
+  rate_read : number_in Rate (text_of (cells (line_of s)) 4) ≡ Some (rate s)
   unfolding spelled_in
   rate_read =
       let h = two_bytes_small 6 (omega arith) in
-      ap (number_in 3) (line_cells s).text_4
-      ∙ number_right 3 (rate s) (in_tenths (rate s)) (tenths-in_tenths (rate s) (omega arith)) (any_rate_and_hold s bytes).0
+      ap (number_in Rate) (line_cells s).text_4
+      ∙ number_right Rate (rate s) (in_tenths (rate s)) (tenths-in_tenths (rate s) (omega arith)) (any_rate_and_hold s bytes).0
 
-  hold_read : number_in 4 (text_of (cells (line_of s)) 5) ≡ right (hold_minutes s)
+  hold_read : number_in Hold (text_of (cells (line_of s)) 5) ≡ Some (hold_minutes s)
   unfolding spelled_in
   hold_read =
       let h = two_bytes_small 8 (omega arith) in
-      ap (number_in 4) (line_cells s).text_5
-      ∙ number_right 4 (hold_minutes s) (decimal (hold_minutes s)) (whole-decimal (hold_minutes s) (omega arith)) (any_rate_and_hold s bytes).1
+      ap (number_in Hold) (line_cells s).text_5
+      ∙ number_right Hold (hold_minutes s) (decimal (hold_minutes s)) (whole-decimal (hold_minutes s) (omega arith)) (any_rate_and_hold s bytes).1
 
   -- the record is the slot's
-  pub line_record : record_in (line_of s) ≡ record { ok = true; fields = fields_of s }
+  pub line_record : record_in (line_of s) ≡ Some (fields_of s)
   unfolding record_in record_of
   line_record =
       let seg : segment s % 256 ≡ segment s = let h = bytes.each 2 (omega arith) in omega arith in
@@ -196,11 +197,11 @@ module _ (s : List ℕ) (bytes : Bytes 16 s) (kept : keeps_rules s ≡ true) whe
   pub slot_again : slot_of (fields_of s) ≡ s
   slot_again = fields_slot s bytes (nothing_behind s kept)
 
-  pub line_read : ((record_in (line_of s)).ok ≡ true) × (slot_of (record_in (line_of s)).fields ≡ s)
-  line_read = (ap (λ (r : Record). r.ok) line_record, ap (λ (r : Record). slot_of r.fields) line_record ∙ slot_again)
+  pub line_read : (record_in (line_of s) ≡ Some (fields_of s)) × (slot_of (fields_of s) ≡ s)
+  line_read = (line_record, slot_again)
 
   -- so a line read is its record put
   pub line_put : (r : Read) → with_line r (line_of s) ≡ with_record r (fields_of s)
   line_put r =
       let c = line_cells s in
-      sym (right_fields r (line_of s) c.good c.filled c.six line_read.0) ∙ ap (λ (q : Record). with_record r q.fields) line_record
+      sym (right_fields r (line_of s) c.good c.filled c.six (sym line_record))

@@ -9,12 +9,13 @@ use lib.Dec.{eqb, ltb}
 use lib.ListN.{length, get_or, take, length-append}
 use lib.Seq.{take_at, get_or-append_seam, get_or-append-add}
 use borrow.Author.Tests.{ltb-true, lt-ltb}
+use Rattle.std.proofs.Common.{Some, None}
 use Rattle.laws.specs.Choice.{choose}
 use Rattle.laws.specs.Range.{within}
 use Rattle.laws.proofs.Test.{and_left, and_right}
 use Rattle.laws.proofs.Range.{inside, not_below, not_above}
 use Rattle.card_slots.specs.Card.{every}
-use Rattle.spelling.specs.Number.{digits, behind, value, number, spelled, whole, tenths}
+use Rattle.spelling.specs.Number.{digits, behind, value, number, whole, tenths}
 use Rattle.spelling.specs.Number as read
 use Rattle.spelling.proofs.Answers.{tenths_pointed}
 use Rattle.wording.specs.Numbers.{digit, at_most, decimal, in_tenths}
@@ -91,9 +92,9 @@ module _ (x : ℕ) (small : x < 1000000000) where
       rw (inside 1 9 (length (at_most 19 x)) (at_most_some 19 x) (at_most_long 19 8 x (omega arith)))
       (digits_read (at_most 19 x) (at_most_digits 19 x))
 
-  pub whole-decimal : whole (decimal x) ≡ spelled x
+  pub whole-decimal : whole (decimal x) ≡ Some x
   unfolding whole decimal
-  whole-decimal = rw decimal-number (ap spelled (at_most-value 19 x (omega arith)))
+  whole-decimal = rw decimal-number (ap Some (at_most-value 19 x (omega arith)))
 
 -- ---- in tenths
 one_digit : (x : ℕ) → x < 10 → decimal x ≡ digit x ∷ []
@@ -104,24 +105,30 @@ in_tenths_is : (x : ℕ) → in_tenths x ≡ decimal (x / 10) ++ 46 ∷ digit (x
 unfolding in_tenths
 in_tenths_is x = rw (one_digit (x % 10) (omega arith))
 
-last_read : (d : ℕ) → d < 10 → d ≡ choose (read.digit (digit d)) (digit d - 48) 10
+last_read : (d : ℕ) → d < 10 → Some d ≡ choose (read.digit (digit d)) (Some (digit d - 48)) None
 unfolding read.digit
-last_read d h = rw (inside 48 57 (digit d) (omega arith) (omega arith)) (omega arith)
+last_read d h = let n : d ≡ digit d - 48 = omega arith in rw (inside 48 57 (digit d) (omega arith) (omega arith)) (ap Some n)
 
 module _ (x : ℕ) (small : x < 10000000000) where
-  pub tenths-in_tenths : tenths (in_tenths x) ≡ spelled x
+  pub tenths-in_tenths : tenths (in_tenths x) ≡ Some x
   tenths-in_tenths =
       let front = decimal (x / 10) in
       let text = front ++ 46 ∷ digit (x % 10) ∷ [] in
       let long = length-append front (46 ∷ digit (x % 10) ∷ []) in
-      let whole-front : spelled (x / 10) ≡ whole (take (length front) text)
-      = sym (ap whole (take_at front (46 ∷ digit (x % 10) ∷ []) (length front) refl) ∙ whole-decimal (x / 10) (omega arith)) in
-      let last : get_or text (length front + 1) 0 ≡ digit (x % 10) = get_or-append-add front (46 ∷ digit (x % 10) ∷ []) 1 0 in
-      let read-last : x % 10 ≡ choose (read.digit (get_or text (length front + 1) 0)) (get_or text (length front + 1) 0 - 48) 10
-      = rw last (last_read (x % 10) (omega arith)) in
+      let two : length text - 2 ≡ length front = omega arith in
+      let one : length text - 1 ≡ length front + 1 = omega arith in
+      let whole-front : Some (x / 10) ≡ whole (take (length text - 2) text)
+      = sym (ap (λ (k : ℕ). whole (take k text)) two ∙ ap whole (take_at front (46 ∷ digit (x % 10) ∷ []) (length front) refl) ∙ whole-decimal (x / 10) (omega arith)) in
+      let point : get_or text (length text - 2) 0 ≡ 46
+      = ap (λ (k : ℕ). get_or text k 0) two ∙ get_or-append_seam front 46 (digit (x % 10) ∷ []) 0 in
+      let last : get_or text (length text - 1) 0 ≡ digit (x % 10)
+      = ap (λ (k : ℕ). get_or text k 0) one ∙ get_or-append-add front (46 ∷ digit (x % 10) ∷ []) 1 0 in
+      let read-last : Some (x % 10) ≡ choose (read.digit (get_or text (length text - 1) 0)) (Some (get_or text (length text - 1) 0 - 48)) None
+      = last_read (x % 10) (omega arith) ∙ ap (λ (c : ℕ). choose (read.digit c) (Some (c - 48)) None) (sym last) in
+      let n : x / 10 * 10 + x % 10 ≡ x = omega arith in
       ap tenths (in_tenths_is x)
-      ∙ sym (tenths_pointed text (length front) (omega arith) (get_or-append_seam front 46 (digit (x % 10) ∷ []) 0) whole-front refl read-last
-      (omega arith) (omega arith))
+      ∙ sym (tenths_pointed text (omega arith) point whole-front read-last)
+      ∙ ap Some n
 
 pub in_tenths_characters : (x : ℕ) → Only DigitOrPoint (in_tenths x)
 unfolding in_tenths

@@ -1,17 +1,17 @@
 -- A plain text is one cell of a line, and six of them with commas between them are a line of six cells.
 use mathlib.Core.Path.{◌≡◌, refl, sym, ap, ◌∙◌}
-use mathlib.Core.Bool.{Bool, true, false, ◌||◌}
+use mathlib.Core.Bool.{true, false, ◌||◌}
 use mathlib.Core.List.{List, [], ◌∷◌, ◌++◌, append-nil, append_assoc}
 use Prim.Native.Nat.{ℕ, zero, suc, ◌-◌, ◌≤◌, ◌<◌}
 use native.Mathlib.Omega.{arith}
 use lib.Dec.{eqb}
-use lib.ListN.{length, get_or, drop, length-append, length-drop}
-use lib.Seq.{take-length, drop-append_seam}
+use lib.ListN.{length, get_or, length-append}
+use lib.Seq.{drop-append_seam}
 use borrow.Author.Tests.{ne_eqb, lt-ltb}
-use Rattle.laws.specs.Choice.{choose}
-use Rattle.cells.specs.Cells.{is_blank, behind_blanks, before_blanks, plain, begins, in_quotes, Cell, out_of_place, ends, ended, bare, quoted, cell, behind_comma, at_most, cells, all_good, text_of}
+use Rattle.cells.specs.Cells.{is_blank, before_blanks, plain, Cell, ends, bare, cell, behind_comma, at_most, cells, all_good, text_of}
 use Rattle.cells.proofs.Texts.{no_blank_before}
-use Rattle.cells.proofs.OneCell.{cell-bare, ended_well}
+use Rattle.cells.proofs.OneCell.{cell_bare, ended_well}
+use Rattle.cells.proofs.AllCells.{cell_shorter}
 use Rattle.card_table_laws.specs.Texts.{Only, PlainCharacter, Plain, good_cell, SixCells}
 
 pub only_at : (P : ℕ → Type 0) (t : List ℕ) (i : ℕ) → i < length t → Only P t → P (get_or t i 0)
@@ -33,7 +33,7 @@ nothing_taken_off : (t : List ℕ) → Plain t → before_blanks t ≡ t
 nothing_taken_off t p =
     let some = p.some in
     let last = not_blank (get_or t (length t - 1) 0) (only_at PlainCharacter t (length t - 1) (omega arith) p.only) in
-    sym (ap before_blanks (take-length t)) ∙ no_blank_before t (length t) some (omega arith) last ∙ take-length t
+    no_blank_before t some last
 
 module _ (rest : List ℕ) (e : ends rest ≡ true) where
   plain_is : (t : List ℕ) → Only PlainCharacter t → plain (t ++ rest) ≡ t
@@ -53,63 +53,14 @@ module _ (rest : List ℕ) (e : ends rest ≡ true) where
   plain_cell [] p = let h = p.some in absurd (omega arith)
   plain_cell (c ∷ t) p =
       let first = p.only.0 in
-      cell-bare (c ∷ t ++ rest) 0 (rw (not_blank c first)) (ne_eqb c 34 first.no_quote) ∙ bare_plain (c ∷ t) p
+      sym (cell_bare (c ∷ t ++ rest) {start = c ∷ t ++ rest} (rw (not_blank c first)) (λ h e. first.no_quote e)) ∙ bare_plain (c ∷ t) p
 
--- ---- what stands behind a cell is no longer than the text
-blanks_short : (l : List ℕ) → length (behind_blanks l) ≤ length l
-blanks_short [] = omega arith
-blanks_short (c ∷ l) = go (is_blank c) (blanks_short l)
-  where
-    go : (b : Bool) → length (behind_blanks l) ≤ length l → length (choose b (behind_blanks l) (c ∷ l)) ≤ suc (length l)
-    go true h = omega arith
-    go false h = omega arith
-
-ended_short : (text rest : List ℕ) → length (ended text rest).rest ≤ length rest
-unfolding ended
-ended_short text rest = go (ends rest)
-  where
-    go : (b : Bool) → length (choose b (good_cell text rest) out_of_place).rest ≤ length rest
-    go true = omega arith
-    go false = omega arith
-
-bare_short : (l : List ℕ) → length (bare l).rest ≤ length l
-unfolding bare
-bare_short l =
-    let e = ended_short (before_blanks (plain l)) (drop (length (plain l)) l) in
-    let d = length-drop (length (plain l)) l in
-    omega arith
-
-quoted_short : (l : List ℕ) → length (quoted l).rest ≤ length l
-unfolding quoted
-quoted_short l = go (begins 34 (drop (length (in_quotes l)) l))
-  where
-    go : (b : Bool) → length (choose b (ended (in_quotes l) (behind_blanks (drop 1 (drop (length (in_quotes l)) l)))) out_of_place).rest ≤ length l
-    go true =
-        let e = ended_short (in_quotes l) (behind_blanks (drop 1 (drop (length (in_quotes l)) l))) in
-        let s = blanks_short (drop 1 (drop (length (in_quotes l)) l)) in
-        let d = length-drop 1 (drop (length (in_quotes l)) l) in
-        let f = length-drop (length (in_quotes l)) l in
-        omega arith
-    go false = omega arith
-
-pub rest_short : (l : List ℕ) → length (cell l).rest ≤ length l
-unfolding cell
-rest_short l = go (begins 34 (behind_blanks l))
-  where
-    go : (b : Bool) → length (choose b (quoted (drop 1 (behind_blanks l))) (bare (behind_blanks l))).rest ≤ length l
-    go true =
-        let q = quoted_short (drop 1 (behind_blanks l)) in
-        let d = length-drop 1 (behind_blanks l) in
-        let s = blanks_short l in
-        omega arith
-    go false = let q = bare_short (behind_blanks l) in let s = blanks_short l in omega arith
-
--- ---- so a line has no more cells if more are allowed
+-- ---- what follows a cell is no longer than the text, so a line has no more cells if more are allowed
 same_cells : (n m : ℕ) (l : List ℕ) → length l < n → length l < m → at_most n l ≡ at_most m l
 same_cells zero m l h k = absurd (omega arith)
 same_cells (suc n) zero l h k = absurd (omega arith)
 same_cells (suc n) (suc m) l h k =
-    ap (λ (cs : List Cell). cell l ∷ cs) (go (cell l).rest (rest_short l) (λ r a b. same_cells n m r a b))
+    ap (λ (cs : List Cell). cell l ∷ cs) (go (cell l).rest (cell_shorter l) (λ r a b. same_cells n m r a b))
   where
     go : (r : List ℕ) → length r ≤ length l → ((s : List ℕ) → length s < n → length s < m → at_most n s ≡ at_most m s)
         → behind_comma (at_most n) r ≡ behind_comma (at_most m) r

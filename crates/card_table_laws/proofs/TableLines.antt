@@ -72,7 +72,7 @@ unfolding is_header without_return cells cell quoted bare ended before_blanks is
 header_right = refl
 
 pub line_no_return : (s : List ℕ) → without_return (line_of s) ≡ line_of s
-line_no_return s = sym (no_return (line_of s) (not_last (line_of s) (line_no_break s)))
+line_no_return s = sym (no_return (line_of s) (λ some. not_last (line_of s) (line_no_break s)))
   where
     not_last : (l : List ℕ) → Only NoBreak l → get_or l (length l - 1) 0 ≡ 13 → ⊥
     not_last [] a e = omega arith

@@ -2,87 +2,77 @@
 #![tactic(auto)]
 
 ghost use Rattle.card_fields.specs.Kinds.{kind_text};
-ghost use Rattle.wording.specs.Laid.{Puts};
+ghost use Rattle.wording.specs.Added.{Adds};
 
 use card_fields::Fields;
-use firing::Time;
-use wording::{fill, words};
+use firing::{Reason, Time, Unsaid};
+use wording::Text;
 
-pub fn kind(out: &mut [u8], at: usize, kind: u8) -> usize
-    ensures { Puts (kind_text kind) out.old at out.new result }
+pub fn kind(out: &mut Text, kind: u8)
+    ensures { Adds (kind_text kind) out.old out.new }
 {
     match kind {
-        card_fields::CLIMB => words(out, at, b"climb"),
-        card_fields::HOLD => words(out, at, b"hold"),
-        _ => words(out, at, b"drop"),
+        card_fields::CLIMB => out.words(b"climb"),
+        card_fields::HOLD => out.words(b"hold"),
+        _ => out.words(b"drop"),
     }
 }
 
-fn rate(out: &mut [u8], at: usize, rate: u64) -> usize {
-    if rate == 0 {
-        return words(out, at, b"no set rate");
+fn climb_or_drop(out: &mut Text, f: Fields) {
+    kind(out, f.kind);
+    out.fill(b" to ~ degrees at ", &[u64::from(f.target)]);
+    match f.rate {
+        0 => out.words(b"no set rate"),
+        rate => out.fill(b"~ an hour", &[u64::from(rate)]),
     }
-    fill(out, at, b"~ an hour", &[rate])
+    if f.hold != 0 {
+        out.fill(b", hold $ min", &[u64::from(f.hold)]);
+    }
 }
 
-fn climb_or_drop(out: &mut [u8], at: usize, f: Fields) -> usize {
-    let named = kind(out, at, f.kind);
-    let there = fill(out, named, b" to ~ degrees at ", &[f.target as u64]);
-    let end = rate(out, there, f.rate as u64);
-    if f.hold == 0 {
-        return end;
+fn hold(out: &mut Text, f: Fields) {
+    out.fill(
+        b"hold at ~ degrees for $ min",
+        &[u64::from(f.target), u64::from(f.hold)],
+    );
+    if f.rate != 0 {
+        out.fill(b", rate ~ an hour", &[u64::from(f.rate)]);
     }
-    fill(out, end, b", hold $ min", &[f.hold as u64])
 }
 
-fn hold(out: &mut [u8], at: usize, target: u64, minutes: u64, rate: u64) -> usize {
-    let end = fill(out, at, b"hold at ~ degrees for $ min", &[target, minutes]);
-    if rate == 0 {
-        return end;
-    }
-    fill(out, end, b", rate ~ an hour", &[rate])
-}
-
-pub fn segment(out: &mut [u8], at: usize, f: Fields) -> usize {
+pub fn segment(out: &mut Text, f: Fields) {
     if f.kind == card_fields::HOLD {
-        return hold(out, at, f.target as u64, f.hold as u64, f.rate as u64);
+        hold(out, f);
+    } else {
+        climb_or_drop(out, f);
     }
-    climb_or_drop(out, at, f)
 }
 
-fn why(out: &mut [u8], at: usize, cause: u8, segment: u64, from: u64, target: u64) -> usize {
-    match cause {
-        firing::CLIMBS_DOWN => fill(out, at, b"$ climbs from ~ to ~", &[segment, from, target]),
-        firing::DROPS_UP => fill(out, at, b"$ drops from ~ to ~", &[segment, from, target]),
-        firing::HOLDS_ELSEWHERE => fill(
-            out,
-            at,
+fn why(out: &mut Text, unsaid: Unsaid) {
+    let segment = u64::from(unsaid.segment.segment);
+    let target = u64::from(unsaid.segment.target);
+    let from = u64::from(unsaid.from);
+    match unsaid.reason {
+        Reason::ClimbsDown => out.fill(b"$ climbs from ~ to ~", &[segment, from, target]),
+        Reason::DropsUp => out.fill(b"$ drops from ~ to ~", &[segment, from, target]),
+        Reason::HoldsElsewhere => out.fill(
             b"$ holds at ~, and the kiln is at ~",
             &[segment, target, from],
         ),
-        _ => fill(out, at, b"$ has no rate", &[segment]),
+        Reason::NoRate => out.fill(b"$ has no rate", &[segment]),
     }
 }
 
 // How long it takes, to the nearest minute, a half up, or why that can't be said.
-pub fn time(out: &mut [u8], at: usize, t: Time) -> usize {
-    if t.cause == firing::SAID {
-        let minutes = (t.seconds as u64 + 30) / 60;
-        return fill(
-            out,
-            at,
-            b"$ h $ min from 20 degrees",
-            &[minutes / 60, minutes % 60],
-        );
+pub fn time(out: &mut Text, t: Time) {
+    match t.unsaid {
+        None => {
+            let minutes = (u64::from(t.seconds) + 30) / 60;
+            out.fill(b"$ h $ min from 20 degrees", &[minutes / 60, minutes % 60]);
+        }
+        Some(unsaid) => {
+            out.words(b"how long it takes cannot be said: segment ");
+            why(out, unsaid);
+        }
     }
-    let end = words(out, at, b"how long it takes cannot be said: segment ");
-    let f = t.segment;
-    why(
-        out,
-        end,
-        t.cause,
-        f.segment as u64,
-        t.from as u64,
-        f.target as u64,
-    )
 }

@@ -1,167 +1,185 @@
 -- All cells of a line, one after the other.
-use mathlib.Core.Path.{◌≡◌, refl, sym, ap, ◌∙◌}
-use mathlib.Core.Bool.{Bool, true, false, ◌&&◌, ◌||◌, and-true, or-false, and_assoc, or_assoc}
+use mathlib.Core.Path.{◌≡◌, sym, ap, ◌∙◌}
+use mathlib.Core.Bool.{Bool, true, false, ◌&&◌, ◌||◌, or-false, or_assoc}
 use mathlib.Core.List.{List, [], ◌∷◌}
 use Prim.Native.Nat.{ℕ, suc, ◌+◌, ◌-◌, ◌≤◌, ◌<◌}
 use native.Mathlib.Omega.{arith}
-use native.Mathlib.Numerals.{add-one}
 use lib.Dec.{ltb}
-use lib.ListN.{length, drop, length-drop, drop_of_length-le}
-use lib.Seq.{drop-drop, drop-cons}
-use borrow.Author.Tests.{ltb-true, ltb-false, lt-ltb, le-ltb}
-use Rattle.cells.specs.Cells.{cell, behind_comma, at_most, cells, all_good, any_filled, text_of}
-use Rattle.cells.specs.declared.Cell.{Cell}
-use Rattle.cells.specs.code.Found.{Places, Holds}
-use Rattle.cells.proofs.OneCell.{length-between}
-use Rattle.cells.specs.Cells as page
+use lib.ListN.{length, get_or, take, drop, length-drop}
+use Rattle.std.proofs.lemmas.Slice.{first_rest}
+use Rattle.laws.specs.Choice.{choose}
+use Rattle.cells.specs.Cells.{Cell, out_of_place, is_blank, behind_blanks, before_blanks, plain, in_quotes, begins, ends, ended, bare, quoted, cell, behind_comma, at_most, cells, all_good, any_filled, text_of}
+use Rattle.cells.specs.code.Found.{Holds}
 
--- the cells from a place on, where k stand before it
-abbrev pub cells_from : List ℕ → ℕ → ℕ → List page.Cell
-cells_from line at k = at_most (suc (length line - k)) (drop at line)
+-- ---- what follows a cell is no longer than the text
+blanks_shorter : (l : List ℕ) → length (behind_blanks l) ≤ length l
+blanks_shorter [] = omega arith
+blanks_shorter (c ∷ l) = go (is_blank c) (blanks_shorter l)
+  where
+    go : (b : Bool) → length (behind_blanks l) ≤ length l → length (choose b (behind_blanks l) (c ∷ l)) ≤ suc (length l)
+    go true h = omega arith
+    go false h = omega arith
 
-pub cells_start : (line : List ℕ) → cells_from line 0 0 ≡ cells line
+ended_shorter : (text rest : List ℕ) → length (ended text rest).rest ≤ length rest
+unfolding ended
+ended_shorter text rest = go (ends rest)
+  where
+    go : (b : Bool) → length (choose b (record { good = true; text = text; rest = rest }) out_of_place).rest ≤ length rest
+    go true = omega arith
+    go false = omega arith
+
+bare_shorter : (l : List ℕ) → length (bare l).rest ≤ length l
+unfolding bare
+bare_shorter l =
+    let e = ended_shorter (before_blanks (plain l)) (drop (length (plain l)) l) in
+    let d = length-drop (length (plain l)) l in
+    omega arith
+
+quoted_shorter : (l : List ℕ) → length (quoted l).rest ≤ length l
+unfolding quoted
+quoted_shorter l = go (begins 34 closing)
+  where
+    closing : List ℕ
+    closing = drop (length (in_quotes l)) l
+
+    go : (b : Bool) → length (choose b (ended (in_quotes l) (behind_blanks (drop 1 closing))) out_of_place).rest ≤ length l
+    go true =
+        let e = ended_shorter (in_quotes l) (behind_blanks (drop 1 closing)) in
+        let f = blanks_shorter (drop 1 closing) in
+        let g = length-drop 1 closing in
+        let h = length-drop (length (in_quotes l)) l in
+        omega arith
+    go false = omega arith
+
+pub cell_shorter : (l : List ℕ) → length (cell l).rest ≤ length l
+unfolding cell
+cell_shorter l = go (begins 34 (behind_blanks l))
+  where
+    go : (b : Bool) → length (choose b (quoted (drop 1 (behind_blanks l))) (bare (behind_blanks l))).rest ≤ length l
+    go true =
+        let e = quoted_shorter (drop 1 (behind_blanks l)) in
+        let f = length-drop 1 (behind_blanks l) in
+        let g = blanks_shorter l in
+        omega arith
+    go false =
+        let e = bare_shorter (behind_blanks l) in
+        let g = blanks_shorter l in
+        omega arith
+
+-- a cell whose rest is not empty
+pub with_rest : (c : Cell) (t r : List ℕ) → c ≡ record { good = true; text = t; rest = r } → 1 ≤ length r
+    → c ≡ record { good = true; text = t; rest = get_or r 0 0 ∷ take (length r - 1) (drop 1 r) }
+with_rest c t r e h = e ∙ ap (λ (x : List ℕ). record { good = true; text = t; rest = x }) (first_rest r 0 h)
+
+-- ---- the cells of the rest of a line, where k stand before it
+abbrev pub cells_from : (line rest : List ℕ) → ℕ → List Cell
+cells_from line rest k = at_most (suc (length line - k)) rest
+
+cells_start : (line : List ℕ) → cells_from line line 0 ≡ cells line
 unfolding cells
 cells_start line =
     let e : length line - 0 ≡ length line = omega arith in
     ap (λ (n : ℕ). at_most (suc n) line) e
 
-same_tests : (a b n : ℕ) → n ≡ b - a → ltb a b ≡ ltb 0 n
-same_tests a b n e = go (ltb a b) refl
-  where
-    go : (t : Bool) → ltb a b ≡ t → ltb a b ≡ ltb 0 n
-    go true f = let h = ltb-true a b f in f ∙ sym (lt-ltb 0 n (omega arith))
-    go false f = let h = ltb-false a b f in f ∙ sym (le-ltb 0 n (omega arith))
+module _ (line rest : List ℕ) (k : ℕ) where
+  pub cells_last : (cell rest).rest ≡ [] → cells_from line rest k ≡ cell rest ∷ []
+  cells_last e = ap (λ (s : List ℕ). cell rest ∷ behind_comma (at_most (length line - k)) s) e
 
-module _ (line : List ℕ) (at k : ℕ) (r : Cell) (p : Places (drop at line) (cell (drop at line)) r) where
-  filled_is : ltb r.from r.to ≡ ltb 0 (length (cell (drop at line)).text)
-  filled_is =
-      let n = sym (ap length p.cut) ∙ length-between r.from r.to (drop at line) p.within in
-      same_tests r.from r.to (length (cell (drop at line)).text) n
+  pub cells_next : {c : ℕ} {more : List ℕ} → (cell rest).rest ≡ c ∷ more → k + length rest ≤ length line
+      → cells_from line rest k ≡ cell rest ∷ cells_from line more (k + 1)
+  cells_next {c} {more} e h =
+      let s = cell_shorter rest in
+      let l = ap length e in
+      let n : length line - k ≡ suc (length line - (k + 1)) = omega arith in
+      ap (λ (s : List ℕ). cell rest ∷ behind_comma (at_most (length line - k)) s) e
+      ∙ ap (λ (m : ℕ). cell rest ∷ at_most m more) n
 
-  pub cells_last : length line ≤ at + r.comma → cells_from line at k ≡ cell (drop at line) ∷ []
-  cells_last h =
-      let n = length-drop at line in
-      ap (λ (s : List ℕ). cell (drop at line) ∷ behind_comma (at_most (length line - k)) s)
-      (sym p.left ∙ drop_of_length-le (drop at line) {i = r.comma} (omega arith))
+-- ---- cells counted, and looked at: no quote was out of place
+pub record Counting (line rest : List ℕ) (k : ℕ) (filled : Bool) : Type 0 where
+  pub few : k + length rest ≤ length line
+  pub counted : k + length (cells_from line rest k) ≡ length (cells line)
+  pub all_good : all_good (cells_from line rest k) ≡ all_good (cells line)
+  pub any_filled : (filled || any_filled (cells_from line rest k)) ≡ any_filled (cells line)
 
-  pub cells_next : k ≤ at → at + r.comma < length line
-      → cells_from line at k ≡ cell (drop at line) ∷ cells_from line (at + (r.comma + 1)) (k + 1)
-  cells_next few h =
-      let n = length-drop at line in
-      let e : length line - k ≡ suc (length line - (k + 1)) = omega arith in
-      let left = sym p.left ∙ drop-cons (drop at line) r.comma 0 (omega arith) in
-      ap (λ (s : List ℕ). cell (drop at line) ∷ behind_comma (at_most (length line - k)) s) left
-      ∙ ap (λ (m : ℕ). cell (drop at line) ∷ at_most m (drop (suc r.comma) (drop at line))) e
-      ∙ ap (λ (l : List ℕ). cell (drop at line) ∷ at_most (suc (length line - (k + 1))) l)
-      (drop-drop (suc r.comma) at line ∙ ap (λ (m : ℕ). drop (at + m) line) (sym (add-one r.comma)))
-
--- ---- cells counted, and looked at
-pub record Counting (line : List ℕ) (at k : ℕ) (good filled : Bool) : Type 0 where
-  pub few : k ≤ at
-  pub within : at ≤ length line
-  pub counted : k + length (cells_from line at k) ≡ length (cells line)
-  pub all_good : (good && all_good (cells_from line at k)) ≡ all_good (cells line)
-  pub any_filled : (filled || any_filled (cells_from line at k)) ≡ any_filled (cells line)
-
-pub counting_start : (line : List ℕ) → Counting line 0 0 true false
+pub counting_start : (line : List ℕ) → Counting line line 0 false
 counting_start line =
     let e = cells_start line in
     let n = ap length e in
-    record {
-      few = omega arith;
-      within = omega arith;
-      counted = omega arith;
-      all_good = ap all_good e;
-      any_filled = ap any_filled e;
-    }
+    record { few = omega arith; counted = omega arith; all_good = ap all_good e; any_filled = ap any_filled e }
 
-module _ {line : List ℕ} {at k : ℕ} {good filled : Bool} (s : Counting line at k good filled)
-    (r : Cell) (p : Places (drop at line) (cell (drop at line)) r) where
-  module _ (cs : List page.Cell) (e : cells_from line at k ≡ cell (drop at line) ∷ cs) where
-    one_more : k + 1 + length cs ≡ length (cells line)
-    one_more =
-        let n = s.counted in
-        let l = ap length e in
-        omega arith
-
-    good_too : ((good && r.good) && all_good cs) ≡ all_good (cells line)
-    good_too =
-        and_assoc good r.good (all_good cs)
-        ∙ ap (λ (t : Bool). good && (t && all_good cs)) p.good
-        ∙ ap (λ (l : List page.Cell). good && all_good l) (sym e)
-        ∙ s.all_good
-
-    filled_too : ((filled || ltb r.from r.to) || any_filled cs) ≡ any_filled (cells line)
-    filled_too =
-        or_assoc filled (ltb r.from r.to) (any_filled cs)
-        ∙ ap (λ (t : Bool). filled || (t || any_filled cs)) (filled_is line at k r p)
-        ∙ ap (λ (l : List page.Cell). filled || any_filled l) (sym e)
-        ∙ s.any_filled
-
-  pub counting_next : at + r.comma < length line
-      → Counting line (at + (r.comma + 1)) (k + 1) (good && r.good) (filled || ltb r.from r.to)
-  counting_next h =
+module _ {line rest : List ℕ} {k : ℕ} {filled : Bool} (s : Counting line rest k filled) where
+  pub counting_next : {t more : List ℕ} {c : ℕ} → cell rest ≡ record { good = true; text = t; rest = c ∷ more }
+      → Counting line more (k + 1) (filled || ltb 0 (length t))
+  counting_next {t} {more} {c} e =
       let few = s.few in
-      let cs = cells_from line (at + (r.comma + 1)) (k + 1) in
-      let e = cells_next line at k r p few h in
+      let short = cell_shorter rest in
+      let l = ap (λ (x : Cell). length x.rest) e in
+      let n = cells_next line rest k (ap (λ (x : Cell). x.rest) e) few in
+      let m = ap length n in
+      let counted = s.counted in
       record {
         few = omega arith;
-        within = omega arith;
-        counted = one_more cs e;
-        all_good = good_too cs e;
-        any_filled = filled_too cs e;
+        counted = omega arith;
+        all_good = sym (ap all_good n ∙ ap (λ (x : Cell). x.good && all_good (cells_from line more (k + 1))) e) ∙ s.all_good;
+        any_filled =
+            or_assoc filled (ltb 0 (length t)) (any_filled (cells_from line more (k + 1)))
+            ∙ sym (ap (λ (x : Bool). filled || x) (ap any_filled n ∙ ap (λ (x : Cell). ltb 0 (length x.text) || any_filled (cells_from line more (k + 1))) e))
+            ∙ s.any_filled;
       }
 
-  pub counting_end : length line ≤ at + r.comma
-      → Holds (cells line) (record { good = good && r.good; cells = k + 1; filled = filled || ltb r.from r.to })
-  counting_end h =
-      let e = cells_last line at k r p h in
+  pub counting_end : {t : List ℕ} → cell rest ≡ record { good = true; text = t; rest = [] }
+      → Holds (cells line) (record { good = true; cells = k + 1; filled = filled || ltb 0 (length t) })
+  counting_end {t} e =
+      let n = cells_last line rest k (ap (λ (x : Cell). x.rest) e) in
+      let m = ap length n in
+      let counted = s.counted in
       record {
-        good = sym (and-true (good && r.good)) ∙ good_too [] e;
-        cells = let n = one_more [] e in omega arith;
-        filled = sym (or-false (filled || ltb r.from r.to)) ∙ filled_too [] e;
+        good = sym (ap all_good n ∙ ap (λ (x : Cell). x.good && true) e) ∙ s.all_good;
+        cells = omega arith;
+        filled =
+            sym (ap (λ (x : Bool). filled || x) (ap any_filled n ∙ ap (λ (x : Cell). ltb 0 (length x.text) || false) e ∙ or-false (ltb 0 (length t))))
+            ∙ s.any_filled;
+      }
+
+  pub counting_bad : cell rest ≡ out_of_place → Holds (cells line) (record { good = false; cells = k + 1; filled = filled })
+  counting_bad e =
+      let n = cells_last line rest k (ap (λ (x : Cell). x.rest) e) in
+      let m = ap length n in
+      let counted = s.counted in
+      record {
+        good = sym (ap all_good n ∙ ap (λ (x : Cell). x.good && true) e) ∙ s.all_good;
+        cells = omega arith;
+        filled = sym (ap (λ (x : Bool). filled || x) (ap any_filled n ∙ ap (λ (x : Cell). ltb 0 (length x.text) || false) e) ∙ or-false filled) ∙ s.any_filled;
       }
 
 -- ---- on the way to cell n
-pub record Reaching (line : List ℕ) (n at k : ℕ) : Type 0 where
-  pub few : k ≤ at
-  pub within : at ≤ length line
-  pub before : k ≤ n
-  pub text : text_of (cells line) n ≡ text_of (cells_from line at k) (n - k)
+pub record Reaching (line : List ℕ) (n : ℕ) (rest : List ℕ) (k : ℕ) : Type 0 where
+  pub few : k + length rest ≤ length line
+  pub text : text_of (cells line) n ≡ text_of (cells_from line rest k) (n - k)
 
-pub reaching_start : (line : List ℕ) (n : ℕ) → Reaching line n 0 0
+pub reaching_start : (line : List ℕ) (n : ℕ) → Reaching line n line 0
 reaching_start line n =
     let m : n - 0 ≡ n = omega arith in
-    record {
-      few = omega arith;
-      within = omega arith;
-      before = omega arith;
-      text = rw (cells_start line, m);
-    }
+    record { few = omega arith; text = rw (cells_start line, m) }
 
-module _ {line : List ℕ} {n at k : ℕ} (s : Reaching line n at k) where
-  pub reached : n ≤ k → text_of (cells line) n ≡ (cell (drop at line)).text
+module _ {line rest : List ℕ} {n k : ℕ} (s : Reaching line n rest k) where
+  pub reached : n ≤ k → text_of (cells line) n ≡ (cell rest).text
   reached h =
-      let b = s.before in
       let m : n - k ≡ 0 = omega arith in
-      s.text ∙ ap (text_of (cells_from line at k)) m
+      s.text ∙ ap (text_of (cells_from line rest k)) m
 
-  module _ (r : Cell) (p : Places (drop at line) (cell (drop at line)) r) (h : k < n) where
-    behind_first : (cs : List page.Cell) → cells_from line at k ≡ cell (drop at line) ∷ cs
-        → text_of (cells line) n ≡ text_of cs (n - (k + 1))
-    behind_first cs e =
+  module _ (h : k < n) where
+    past_first : (cs : List Cell) → cells_from line rest k ≡ cell rest ∷ cs → text_of (cells line) n ≡ text_of cs (n - (k + 1))
+    past_first cs e =
         let m : n - k ≡ suc (n - (k + 1)) = omega arith in
-        s.text ∙ ap (λ (l : List page.Cell). text_of l (n - k)) e ∙ ap (text_of (cell (drop at line) ∷ cs)) m
+        s.text ∙ ap (λ (l : List Cell). text_of l (n - k)) e ∙ ap (text_of (cell rest ∷ cs)) m
 
-    pub reaching_next : at + r.comma < length line → Reaching line n (at + (r.comma + 1)) (k + 1)
-    reaching_next g =
+    pub reaching_next : {c : ℕ} {more : List ℕ} → (cell rest).rest ≡ c ∷ more → Reaching line n more (k + 1)
+    reaching_next {c} {more} e =
         let few = s.few in
-        record {
-          few = omega arith;
-          within = omega arith;
-          before = omega arith;
-          text = behind_first (cells_from line (at + (r.comma + 1)) (k + 1)) (cells_next line at k r p few g);
-        }
+        let short = cell_shorter rest in
+        let l = ap length e in
+        record { few = omega arith; text = past_first (cells_from line more (k + 1)) (cells_next line rest k e few) }
 
-    pub too_few : length line ≤ at + r.comma → text_of (cells line) n ≡ []
-    too_few g = behind_first [] (cells_last line at k r p g)
+    pub too_few : (cell rest).rest ≡ [] → text_of (cells line) n ≡ []
+    too_few e = past_first [] (cells_last line rest k e)

@@ -1,3 +1,3 @@
 pub mod Texts
-pub mod OneCell
 pub mod AllCells
+pub mod OneCell

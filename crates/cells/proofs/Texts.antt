@@ -1,29 +1,31 @@
 -- Steps through a text: blanks taken off, the characters before a comma or a quote, and before a closing quote.
 use mathlib.Core.Path.{◌≡◌, refl, sym, ap, ◌∙◌}
-use mathlib.Core.Bool.{Bool, true, false, ◌||◌, false≢true}
+use mathlib.Core.Bool.{Bool, true, false, ◌||◌}
 use mathlib.Core.List.{List, [], ◌∷◌, ◌++◌, reverse, reverse-append, reverse-cons, reverse-reverse}
-use Prim.Native.Nat.{ℕ, zero, suc, ◌+◌, ◌-◌, ◌≤◌, ◌<◌, suc-le-suc}
+use Prim.Native.Nat.{ℕ, suc, ◌+◌, ◌-◌, ◌≤◌, ◌<◌, suc-le-suc}
 use native.Mathlib.Omega.{arith}
 use native.Mathlib.Numerals.{add-one}
 use lib.Dec.{eqb}
-use lib.ListN.{length, get_or, take, drop, length-drop, drop_of_length-le}
+use lib.ListN.{length, get_or, take, drop, drop_of_length-le}
 use lib.Seq.{drop-cons, take-suc, take_all}
-use borrow.Author.Tests.{le-leb, lt-leb}
+use borrow.Author.Tests.{le-leb, lt-leb, eq-eqb, ne_eqb}
 use Rattle.laws.specs.Choice.{choose}
-use Rattle.cells.specs.Cells.{between, is_blank, behind_blanks, before_blanks, plain, in_quotes, begins, ends, part}
+use Rattle.cells.specs.Cells.{between, is_blank, behind_blanks, before_blanks, plain, in_quotes, begins, part}
 
--- ---- blanks in front
-module _ (l : List ℕ) (i : ℕ) where
-  pub blank_here : i < length l → is_blank (get_or l i 0) ≡ true → behind_blanks (drop i l) ≡ behind_blanks (drop (i + 1) l)
-  blank_here h e = rw (add-one, drop-cons l i 0, e)
+-- ---- blanks at the front
+pub blank_first : (l : List ℕ) → 1 ≤ length l → is_blank (get_or l 0 0) ≡ true → behind_blanks (drop 1 l) ≡ behind_blanks l
+blank_first [] h e = absurd (omega arith)
+blank_first (c ∷ l) h e = rw e
 
-  pub no_blank_here : i < length l → is_blank (get_or l i 0) ≡ false → behind_blanks (drop i l) ≡ drop i l
-  no_blank_here h e = rw (drop-cons l i 0, e)
+pub no_blank_first : (l : List ℕ) → 1 ≤ length l → is_blank (get_or l 0 0) ≡ false → behind_blanks l ≡ l
+no_blank_first [] h e = absurd (omega arith)
+no_blank_first (c ∷ l) h e = rw e
 
-  pub nothing_here : length l ≤ i → behind_blanks (drop i l) ≡ drop i l
-  nothing_here h = rw drop_of_length-le
+pub no_text_first : (l : List ℕ) → length l < 1 → behind_blanks l ≡ l
+no_text_first [] h = refl
+no_text_first (c ∷ l) h = absurd (omega arith)
 
--- ---- blanks behind
+-- ---- blanks at the end
 blank_last : (l : List ℕ) (b : ℕ) → is_blank b ≡ true → before_blanks (l ++ (b ∷ [])) ≡ before_blanks l
 unfolding before_blanks
 blank_last l b e = rw (reverse-append l (b ∷ []), e)
@@ -33,41 +35,31 @@ unfolding before_blanks
 no_blank_last l b e =
     rw (reverse-append l (b ∷ []), e) (reverse-cons b (reverse l) ∙ ap (λ (s : List ℕ). s ++ (b ∷ [])) (reverse-reverse l))
 
-module _ (l : List ℕ) (n : ℕ) (some : 0 < n) (h : n ≤ length l) where
-  last_taken : take n l ≡ take (n - 1) l ++ (get_or l (n - 1) 0 ∷ [])
+module _ (l : List ℕ) (some : 1 ≤ length l) where
+  last_taken : l ≡ take (length l - 1) l ++ (get_or l (length l - 1) 0 ∷ [])
   last_taken =
-      let m : n ≡ suc (n - 1) = omega arith in
-      ap (λ (k : ℕ). take k l) m ∙ take-suc l (n - 1) 0 (omega arith)
+      let m : length l ≡ suc (length l - 1) = omega arith in
+      sym (take_all (length l) l (omega arith)) ∙ ap (λ (k : ℕ). take k l) m ∙ take-suc l (length l - 1) 0 (omega arith)
 
-  pub blank_before : is_blank (get_or l (n - 1) 0) ≡ true → before_blanks (take n l) ≡ before_blanks (take (n - 1) l)
-  blank_before e = ap before_blanks last_taken ∙ blank_last (take (n - 1) l) (get_or l (n - 1) 0) e
+  pub blank_before : is_blank (get_or l (length l - 1) 0) ≡ true → before_blanks (take (length l - 1) l) ≡ before_blanks l
+  blank_before e = sym (ap before_blanks last_taken ∙ blank_last (take (length l - 1) l) (get_or l (length l - 1) 0) e)
 
-  pub no_blank_before : is_blank (get_or l (n - 1) 0) ≡ false → before_blanks (take n l) ≡ take n l
-  no_blank_before e = ap before_blanks last_taken ∙ no_blank_last (take (n - 1) l) (get_or l (n - 1) 0) e ∙ sym last_taken
+  pub no_blank_before : is_blank (get_or l (length l - 1) 0) ≡ false → before_blanks l ≡ l
+  no_blank_before e = ap before_blanks last_taken ∙ no_blank_last (take (length l - 1) l) (get_or l (length l - 1) 0) e ∙ sym last_taken
 
-pub nothing_before : (l : List ℕ) (n : ℕ) → n ≡ 0 → before_blanks (take n l) ≡ take n l
+pub nothing_before : (l : List ℕ) → length l < 1 → before_blanks l ≡ l
 unfolding before_blanks
-nothing_before l n e = rw e
+nothing_before [] h = refl
+nothing_before (c ∷ l) h = absurd (omega arith)
 
--- ---- the character at a place
-module _ (l : List ℕ) (i : ℕ) where
-  pub begins_at : (c : ℕ) → i < length l → begins c (drop i l) ≡ eqb (get_or l i 0) c
-  begins_at c h = rw (drop-cons l i 0)
+-- ---- the character at the front of a text
+pub begins_first : (c : ℕ) (l : List ℕ) → 1 ≤ length l → get_or l 0 0 ≡ c → begins c l ≡ true
+begins_first c [] h e = absurd (omega arith)
+begins_first c (x ∷ l) h e = eq-eqb x c e
 
-  pub begins_past : (c : ℕ) → length l ≤ i → begins c (drop i l) ≡ false
-  begins_past c h = rw drop_of_length-le
-
-  pub ends_at : i < length l → ends (drop i l) ≡ eqb (get_or l i 0) 44
-  ends_at h = rw (drop-cons l i 0)
-
-  pub ends_past : length l ≤ i → ends (drop i l) ≡ true
-  ends_past h = rw drop_of_length-le
-
-pub begins_within : (c : ℕ) (l : List ℕ) (i : ℕ) → begins c (drop i l) ≡ true → i < length l
-begins_within c [] zero e = absurd (false≢true e)
-begins_within c [] (suc i) e = absurd (false≢true e)
-begins_within c (x ∷ l) zero e = omega arith
-begins_within c (x ∷ l) (suc i) e = suc-le-suc (begins_within c l i e)
+pub begins_not : (c : ℕ) (l : List ℕ) → (1 ≤ length l → get_or l 0 0 ≡ c → ⊥) → begins c l ≡ false
+begins_not c [] n = refl
+begins_not c (x ∷ l) n = ne_eqb x c (n (omega arith))
 
 -- ---- the front of a text
 abbrev Front : List ℕ → List ℕ → Type 0
@@ -112,24 +104,20 @@ closing_in_quotes c (d ∷ l) e f = rw (e, f)
 doubled_in_quotes : (c d : ℕ) (l : List ℕ) → eqb c 34 ≡ true → eqb d 34 ≡ true → in_quotes (c ∷ d ∷ l) ≡ c ∷ d ∷ in_quotes l
 doubled_in_quotes c d l e f = rw (e, f)
 
-module _ (l : List ℕ) (i : ℕ) (h : i < length l) where
-  pub quotes_other : eqb (get_or l i 0) 34 ≡ false → length (in_quotes (drop i l)) ≡ suc (length (in_quotes (drop (i + 1) l)))
-  quotes_other e = rw (add-one, drop-cons l i 0) (ap length (other_in_quotes (get_or l i 0) (drop (suc i) l) e))
+pub quotes_other : (l : List ℕ) → 1 ≤ length l → (get_or l 0 0 ≡ 34 → ⊥) → length (in_quotes l) ≡ suc (length (in_quotes (drop 1 l)))
+quotes_other [] h n = absurd (omega arith)
+quotes_other (c ∷ l) h n = ap length (other_in_quotes c l (ne_eqb c 34 n))
 
-  pub quotes_closing : eqb (get_or l i 0) 34 ≡ true → begins 34 (drop (i + 1) l) ≡ false → length (in_quotes (drop i l)) ≡ 0
-  quotes_closing e f = rw (drop-cons l i 0) (ap length (closing_in_quotes (get_or l i 0) (drop (suc i) l) e (rw add-one at f)))
+pub quotes_doubled : (l : List ℕ) → 2 ≤ length l → get_or l 0 0 ≡ 34 → get_or l 1 0 ≡ 34
+    → length (in_quotes l) ≡ suc (suc (length (in_quotes (drop 2 l))))
+quotes_doubled [] h e f = absurd (omega arith)
+quotes_doubled (c ∷ []) h e f = absurd (omega arith)
+quotes_doubled (c ∷ d ∷ l) h e f = ap length (doubled_in_quotes c d l (eq-eqb c 34 e) (eq-eqb d 34 f))
 
-  pub quotes_doubled : eqb (get_or l i 0) 34 ≡ true → begins 34 (drop (i + 1) l) ≡ true
-      → length (in_quotes (drop i l)) ≡ suc (suc (length (in_quotes (drop (i + 1 + 1) l))))
-  quotes_doubled e f =
-      let w : i + 1 < length l = begins_within 34 l (i + 1) f in
-      let g = sym (begins_at l (i + 1) 34 w) ∙ f in
-      let d : drop i l ≡ get_or l i 0 ∷ get_or l (i + 1) 0 ∷ drop (i + 1 + 1) l
-      = rw (add-one (i + 1)) (drop-cons l i 0 h ∙ ap (λ (s : List ℕ). get_or l i 0 ∷ s) (rw (← add-one i) (drop-cons l (i + 1) 0 w))) in
-      ap (λ (s : List ℕ). length (in_quotes s)) d ∙ ap length (doubled_in_quotes (get_or l i 0) (get_or l (i + 1) 0) (drop (i + 1 + 1) l) e g)
-
-pub quotes_end : (l : List ℕ) (i : ℕ) → length l ≤ i → length (in_quotes (drop i l)) ≡ 0
-quotes_end l i h = rw drop_of_length-le
+pub quotes_closing : (l : List ℕ) → 1 ≤ length l → get_or l 0 0 ≡ 34 → (2 ≤ length l → get_or l 1 0 ≡ 34 → ⊥) → length (in_quotes l) ≡ 0
+quotes_closing [] h e n = absurd (omega arith)
+quotes_closing (c ∷ []) h e n = ap length (closing_in_quotes c [] (eq-eqb c 34 e) refl)
+quotes_closing (c ∷ d ∷ l) h e n = ap length (closing_in_quotes c (d ∷ l) (eq-eqb c 34 e) (ne_eqb d 34 (n (omega arith))))
 
 pub quotes_front : (l : List ℕ) → Front (in_quotes l) l
 quotes_front [] = no_front []
@@ -140,20 +128,6 @@ quotes_front (c ∷ d ∷ l) =
     one_front (eqb c 34) (choose (eqb d 34) (c ∷ d ∷ in_quotes l) []) (c ∷ in_quotes (d ∷ l)) line
     (one_front (eqb d 34) (c ∷ d ∷ in_quotes l) [] line two (no_front line))
     (front_cons c (in_quotes (d ∷ l)) (d ∷ l) (quotes_front (d ∷ l)))
-
--- ---- places
-module _ (text : List ℕ) (from n : ℕ) (h : from ≤ length text) where
-  pub plain_within : n ≡ length (plain (drop from text)) → from + n ≤ length text
-  plain_within e =
-      let f = (plain_front (drop from text)).1 in
-      let d = length-drop from text in
-      omega arith
-
-  pub quotes_within : n ≡ length (in_quotes (drop from text)) → from + n ≤ length text
-  quotes_within e =
-      let f = (quotes_front (drop from text)).1 in
-      let d = length-drop from text in
-      omega arith
 
 -- ---- parts
 module _ (l : List ℕ) (from to : ℕ) where
@@ -170,6 +144,3 @@ module _ (l : List ℕ) (from to : ℕ) where
   pub part_is : to ≤ length l → part from to l ≡ between from to l
   unfolding part
   part_is h = rw (le-leb to (length l))
-
-pub part_behind : (l : List ℕ) (at : ℕ) → part at (length l) l ≡ drop at l
-part_behind l at = part_is l at (length l) (omega arith) ∙ take_all (length l - at) (drop at l) (simp length-drop (omega arith))

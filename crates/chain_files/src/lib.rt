@@ -2,8 +2,10 @@
 #![tactic(auto)]
 
 use cipher::Schedule;
+use recipe_words::arguments::Direction;
 use recipe_words::files::Source;
-use recipe_words::{arguments, files, outcome, progress};
+use recipe_words::{files, outcome, progress};
+use refusals::Refusal;
 use std::fs::File;
 use stream::Stream;
 
@@ -12,56 +14,39 @@ const MESSAGE: usize = 6;
 
 const OUTPUT: usize = 7;
 
-// What a piece leaves: whether more may come, and the stream.
-#[derive(Drop)]
-struct Turn {
-    on: bool,
-    stream: Stream,
-}
-
-fn stop(stream: Stream) -> Turn {
-    Turn { on: false, stream }
-}
-
 fn finish(rt: &HostRuntime, to: &File, stream: Stream) {
     let done = stream.finish();
-    if done.answer != refusals::DONE {
-        outcome::refused(rt, done.answer, b"message", stream.count);
-        return;
+    match done.answer {
+        Ok(()) => files::end(rt, to, stream.count),
+        Err(refusal) => outcome::refused(rt, refusal, "message", stream.count),
     }
-    files::end(rt, to, stream.count);
 }
 
-// A piece of at most 4,096 bytes; with the bytes held, up to 15 more come out.
-fn work_piece(rt: &HostRuntime, to: &mut File, stream: Stream, bytes: &[u8]) -> Turn {
+// A piece of at most 4,096 bytes; with the bytes held, up to 15 more come out. The next stream.
+fn work_piece(rt: &HostRuntime, to: &mut File, stream: Stream, bytes: &[u8]) -> Option<Stream> {
     let mut out = [0u8; 4112];
     let fed = stream.feed(bytes, &mut out);
-    if fed.answer != refusals::DONE {
-        outcome::refused(rt, fed.answer, b"message", Stream::LIMIT);
-        return stop(stream);
+    if let Err(refusal) = fed.answer {
+        outcome::refused(rt, refusal, "message", Stream::LIMIT);
+        return None;
     }
-    if !files::put(rt, to, &out, fed.written as usize) {
-        return stop(stream);
-    }
-    let next = fed.next;
-    progress::show(rt, stream.count, next.count);
-    Turn {
-        on: true,
-        stream: next,
-    }
+    files::put(rt, to, &out[..fed.written as usize])?;
+    progress::show(rt, stream.count, fed.next.count);
+    Some(fed.next)
 }
 
-// What one read gives, worked.
-fn read_piece(rt: &HostRuntime, from: &mut Source, to: &mut File, stream: Stream) -> Turn {
+// What one read gives, worked. The next stream, if more may come.
+fn read_piece(
+    rt: &HostRuntime,
+    from: &mut Source,
+    to: &mut File,
+    stream: Stream,
+) -> Option<Stream> {
     let mut bytes = [0u8; 4096];
-    let got = files::piece(rt, from, &mut bytes);
-    if !got.ok {
-        return stop(stream);
-    }
-    let n = got.len;
+    let n = files::piece(rt, from, &mut bytes)?;
     if n == 0 {
         finish(rt, to, stream);
-        return stop(stream);
+        return None;
     }
     work_piece(rt, to, stream, &bytes[..n])
 }
@@ -69,21 +54,17 @@ fn read_piece(rt: &HostRuntime, from: &mut Source, to: &mut File, stream: Stream
 // Each turn but the last takes a byte or more, and the stream takes LIMIT of them, so the turns suffice.
 fn pieces(rt: &HostRuntime, from: &mut Source, to: &mut File, begun: Stream) {
     let mut stream = begun;
-    let mut turns = Stream::LIMIT + 1;
-    while turns > 0 {
-        let turn = read_piece(rt, from, to, stream);
-        let next = turn.stream;
+    for _ in 0..=Stream::LIMIT {
+        let Some(next) = read_piece(rt, from, to, stream) else {
+            break;
+        };
         stream = next;
-        if !turn.on {
-            progress::wipe(rt, stream.count);
-            return;
-        }
-        turns -= 1;
     }
+    progress::wipe(rt, stream.count);
 }
 
 fn work(rt: &HostRuntime, stream: Stream) {
-    let Some(mut from) = files::input(rt, MESSAGE, b"message", true) else {
+    let Some(mut from) = files::input(rt, MESSAGE, "message", true) else {
         return;
     };
     let Some(mut to) = files::output(rt, OUTPUT) else {
@@ -94,12 +75,13 @@ fn work(rt: &HostRuntime, stream: Stream) {
 
 // Under a schedule, from a first block.
 pub fn start(rt: &HostRuntime, schedule: Schedule, first: &[u8]) {
-    let begun = Stream::start(schedule, arguments::direction(rt), first);
-    if begun.answer == refusals::DONE {
-        work(rt, begun.stream);
-    } else if begun.answer == refusals::DIRECTION {
-        outcome::refused(rt, begun.answer, b"direction", 0);
-    } else {
-        outcome::refused(rt, begun.answer, b"first", first.len() as u64);
+    let Some(direction) = Direction::given(rt) else {
+        outcome::refused(rt, Refusal::Direction, "direction", 0);
+        return;
+    };
+    let begun = Stream::start(schedule, direction as u64, first);
+    match begun.answer {
+        Ok(()) => work(rt, begun.stream),
+        Err(refusal) => outcome::refused(rt, refusal, "first", first.len() as u64),
     }
 }

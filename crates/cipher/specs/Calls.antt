@@ -6,7 +6,7 @@ use Rattle.cipher_numbers.specs.Ciphers.{number, is_cipher, is_length, padded}
 use Rattle.cipher_numbers.specs.Blank.{blank}
 use Rattle.cipher.specs.Schedule.{schedule_of, bad, zero_schedule}
 use Rattle.cipher.specs.declared.Schedule.{Schedule}
-use Rattle.cipher.specs.declared.SetUp.{SetUp}
+use Rattle.cipher.specs.Numbered.{SetUp}
 
 -- ---- set-up
 unfoldable pub set_up_refusal : ℕ → List ℕ → ℕ

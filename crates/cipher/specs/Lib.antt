@@ -1,3 +1,4 @@
 pub mod Schedule
+pub mod Numbered
 pub mod Calls
 pub mod Promises

@@ -3,7 +3,7 @@ use Rattle.std.specs.Prelude.{◌≡◌, List, ℕ, length}
 use Rattle.cipher.specs.Schedule.{enciphered, deciphered}
 use Rattle.cipher.specs.Calls.{set_up, block_refusal, block_out}
 use Rattle.cipher.specs.declared.Schedule.{Schedule}
-use Rattle.cipher.specs.declared.SetUp.{SetUp}
+use Rattle.cipher.specs.Numbered.{SetUp}
 
 -- set-up of a key for the cipher of a number returns r
 pub record SetsUp (number : ℕ) (key : List ℕ) (r : SetUp) : Type 0 where

@@ -2,13 +2,16 @@
 #![tactic(auto)]
 
 ghost use Rattle.std.specs.Prelude.{◌≡◌, length};
-ghost use Rattle.cipher.specs.Schedule.{schedule_of, bad, zero_schedule, in_direction};
+ghost use Rattle.refusals.specs.Numbers.{number, number_of};
+ghost use Rattle.cipher.specs.Schedule.{bad, zero_schedule, in_direction};
 ghost use Rattle.cipher.specs.Calls.{set_up_refusal, set_up_as, block_refusal};
+ghost use Rattle.cipher.specs.Numbered.{in_numbers};
 ghost use Rattle.cipher.specs.Promises.{SetsUp, WorksBlock, EnciphersBlock, DeciphersBlock};
 
 use blocks_lent::Way;
 use cipher_blocks::alone;
 use cipher_numbers::blank;
+use refusals::{Answer, Refusal};
 
 #[derive(Clone, Copy)]
 pub struct Schedule {
@@ -17,32 +20,27 @@ pub struct Schedule {
     pub key_length: u8,
 }
 
+// No Result: a refused set-up gives the all-zero schedule beside its answer, which `SetsUp` promises.
 #[derive(Clone, Copy)]
 pub struct SetUp {
-    pub answer: u8,
+    pub answer: Answer,
     pub schedule: Schedule,
 }
 
-// Is the schedule of these parts bad? Its round keys are lent, and not copied then.
-pub fn is_bad(keys: &[u8; 288], cipher: u8, key_length: u8) -> bool
-    ensures { result ≡ bad (schedule_of keys.now cipher key_length) }
-{
-    let cipher = cipher as u64;
-    let length = key_length as usize;
-    if !cipher_numbers::is_cipher(cipher) {
-        return true;
+impl Schedule {
+    pub fn is_bad(&self) -> bool
+        ensures { result ≡ bad self.now }
+    {
+        let cipher = self.cipher as u64;
+        let length = self.key_length as usize;
+        if !cipher_numbers::is_cipher(cipher) {
+            return true;
+        }
+        if !cipher_numbers::is_length(cipher, length) {
+            return true;
+        }
+        !cipher_numbers::rest_is_zero(&self.round_keys, cipher, length)
     }
-    if !cipher_numbers::is_length(cipher, length) {
-        return true;
-    }
-    !cipher_numbers::rest_is_zero(keys, cipher, length)
-}
-
-// Is the schedule bad?
-pub fn bad_schedule(s: Schedule) -> bool
-    ensures { result ≡ bad s }
-{
-    is_bad(&s.round_keys, s.cipher, s.key_length)
 }
 
 // The all-zero schedule.
@@ -57,16 +55,18 @@ pub fn no_schedule() -> Schedule
 }
 
 // A refused set-up.
-fn refused(answer: u8) -> SetUp
-    ensures { result ≡ set_up_as answer zero_schedule }
+fn refused(refusal: Refusal) -> SetUp
+    ensures { in_numbers result ≡ set_up_as (number_of refusal) zero_schedule }
 {
-    let schedule = no_schedule();
-    SetUp { answer, schedule }
+    SetUp {
+        answer: Err(refusal),
+        schedule: no_schedule(),
+    }
 }
 
-// The refusal of a key for the cipher of a number, or 0.
-fn set_up_refusal(cipher: u64, key: &[u8]) -> u8
-    ensures { result ≡ set_up_refusal cipher key.now }
+// Whether a key is taken for the cipher of a number.
+fn set_up_refusal(cipher: u64, key: &[u8]) -> Answer
+    ensures { number result ≡ set_up_refusal cipher key.now }
 {
     let unknown = !cipher_numbers::is_cipher(cipher);
     let length = !cipher_numbers::is_length(cipher, key.len());
@@ -76,58 +76,52 @@ fn set_up_refusal(cipher: u64, key: &[u8]) -> u8
 
 // The schedule of a key, for the cipher of a number.
 pub fn set_up(cipher: u64, key: &[u8]) -> SetUp
-    ensures { SetsUp cipher key.now result }
+    ensures { SetsUp cipher key.now (in_numbers result) }
 {
-    let no = set_up_refusal(cipher, key);
-    if no != refusals::DONE {
-        return refused(no);
+    if let Err(refusal) = set_up_refusal(cipher, key) {
+        return refused(refusal);
     }
-    let round_keys = cipher_numbers::round_keys(cipher, key);
-    let schedule = Schedule {
-        round_keys: round_keys,
-        cipher: (cipher % 256) as u8,
-        key_length: (key.len() % 256) as u8,
-    };
     SetUp {
-        answer: refusals::DONE,
-        schedule,
+        answer: Ok(()),
+        schedule: Schedule {
+            round_keys: cipher_numbers::round_keys(cipher, key),
+            cipher: (cipher % 256) as u8,
+            key_length: (key.len() % 256) as u8,
+        },
     }
 }
 
-// The refusal of one block of that length, with that room, or 0.
-fn block_refusal(s: Schedule, block: usize, room: usize) -> u8
-    ensures { result ≡ block_refusal s block room }
+// Whether one block of that length is worked, with that room.
+fn block_refusal(s: Schedule, block: usize, room: usize) -> Answer
+    ensures { number result ≡ block_refusal s block room }
 {
-    cipher_orders::block::first(bad_schedule(s), block != 16, room < 16)
+    cipher_orders::block::first(s.is_bad(), block != 16, room < 16)
 }
 
 // One block in a direction to the front of the output.
-fn one_block(direction: u64, s: Schedule, block: &[u8], out: &mut [u8]) -> u8
-    ensures { WorksBlock (in_direction direction) s block.now out.old result out.new }
+fn one_block(direction: u64, s: Schedule, block: &[u8], out: &mut [u8]) -> Answer
+    ensures { WorksBlock (in_direction direction) s block.now out.old (number result) out.new }
 {
-    let no = block_refusal(s, block.len(), out.len());
-    if no != refusals::DONE {
-        return no;
-    }
+    block_refusal(s, block.len(), out.len())?;
     let way = Way {
         cipher: s.cipher as u64,
         length: s.key_length as usize,
         direction,
     };
     alone::run(&s.round_keys, way, block, out, 1);
-    refusals::DONE
+    Ok(())
 }
 
 // One block enciphered to the front of the output.
-pub fn encipher_block(s: Schedule, block: &[u8], out: &mut [u8]) -> u8
-    ensures { EnciphersBlock s block.now out.old result out.new }
+pub fn encipher_block(s: Schedule, block: &[u8], out: &mut [u8]) -> Answer
+    ensures { EnciphersBlock s block.now out.old (number result) out.new }
 {
     one_block(cipher_numbers::ENCIPHER, s, block, out)
 }
 
 // One block deciphered to the front of the output.
-pub fn decipher_block(s: Schedule, block: &[u8], out: &mut [u8]) -> u8
-    ensures { DeciphersBlock s block.now out.old result out.new }
+pub fn decipher_block(s: Schedule, block: &[u8], out: &mut [u8]) -> Answer
+    ensures { DeciphersBlock s block.now out.old (number result) out.new }
 {
     one_block(cipher_numbers::DECIPHER, s, block, out)
 }

@@ -4,11 +4,14 @@ ghost use Rattle.cbc.specs.Cbc as cbc;
 ghost use Rattle.blocks_lent.specs.Ways.{E, D, LegalWay};
 
 use blocks_lent::Way;
-use blocks_lent::chain::{last_with, run_with};
-use cipher_numbers::{E2, ENCIPHER, HIEROCRYPT3, NOEKEON};
-use hierocrypt3_tables::{forward, inverse};
+use blocks_lent::chain::{decipher_with, encipher_with, last_with};
+use blocks_lent::ciphers::{Deciphering, Enciphering};
+use blocks_lent::message::Message;
+use cipher_numbers::ENCIPHER;
+use hierocrypt3_tables::forward::Forward;
+use hierocrypt3_tables::inverse::Inverse;
 
-// n blocks of a message through the chain to the front of the output, and the chain block behind them. The message is its first block and the rest.
+// n blocks of a message through the chain to the front of the output, and the chain block after them. The message is its first block and the rest.
 pub fn run(
     keys: &[u8; 288],
     way: Way,
@@ -21,27 +24,15 @@ pub fn run(
     requires { LegalWay way × (16 * n ≤ 16 + length rest.now) × (16 * n ≤ length out.old) }
     ensures { cbc.Chained (E way keys.now) (D way keys.now) way.direction chain (first ++ rest.now) out.old n result out.new }
 {
-    let none = [0u32; 0];
-    if way.cipher == HIEROCRYPT3 {
-        if way.direction == ENCIPHER {
-            let sbox = forward::sbox();
-            let table = forward::t_table();
-            return run_with(&sbox, &table, keys, way, chain, first, rest, out, n);
-        }
-        let unsbox = inverse::unsbox();
-        let table = inverse::u_table();
-        return run_with(&unsbox, &table, keys, way, chain, first, rest, out, n);
+    let message = Message::new(first, rest);
+    if way.direction == ENCIPHER {
+        by_number!(way, Forward, Enciphering, e => encipher_with(&e, keys, chain, &message, out, n))
+    } else {
+        by_number!(way, Inverse, Deciphering, d => decipher_with(&d, keys, chain, &message, out, n))
     }
-    if way.cipher == E2 {
-        let sbox = e2_table::table();
-        return run_with(&sbox, &none, keys, way, chain, first, rest, out, n);
-    }
-    let nothing = [0u8; 0];
-    let constants = noekeon::constants(way.cipher == NOEKEON);
-    run_with(&nothing, &constants, keys, way, chain, first, rest, out, n)
 }
 
-// The chain block behind n blocks of a message that are enciphered; nothing is written.
+// The chain block after n blocks of a message that are enciphered; nothing is written.
 pub fn last(
     keys: &[u8; 288],
     way: Way,
@@ -53,17 +44,6 @@ pub fn last(
     requires { LegalWay way × (way.direction ≡ 1) × (16 * n ≤ 16 + length rest.now) }
     ensures { result ≡ cbc.chain (E way keys.now) 1 chain (cbc.blocks n (first ++ rest.now)) }
 {
-    let none = [0u32; 0];
-    if way.cipher == HIEROCRYPT3 {
-        let sbox = forward::sbox();
-        let table = forward::t_table();
-        return last_with(&sbox, &table, keys, way, chain, first, rest, n);
-    }
-    if way.cipher == E2 {
-        let sbox = e2_table::table();
-        return last_with(&sbox, &none, keys, way, chain, first, rest, n);
-    }
-    let nothing = [0u8; 0];
-    let constants = noekeon::constants(way.cipher == NOEKEON);
-    last_with(&nothing, &constants, keys, way, chain, first, rest, n)
+    let message = Message::new(first, rest);
+    by_number!(way, Forward, Enciphering, e => last_with(&e, keys, chain, &message, n))
 }

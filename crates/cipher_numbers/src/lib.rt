@@ -7,6 +7,7 @@ ghost use Rattle.std.specs.Prelude.{◌≡◌, true, [], ◌∷◌, length, drop
 ghost use Rattle.runs.specs.Zeros.{zeros};
 ghost use Rattle.cipher_numbers.specs.Ciphers.{number, is_cipher, is_length, is_direction, member, padded};
 
+// Numbers and no enum, since any number may be handed in (01), and each call says what it does with one that is none of these.
 pub const HIEROCRYPT3: u64 = 1;
 
 pub const E2: u64 = 2;

@@ -1,20 +1,14 @@
 // One block: the first of its refusals that applies.
 ghost use Rattle.std.specs.Prelude.{◌≡◌};
+ghost use Rattle.refusals.specs.Numbers.{number};
 ghost use Rattle.refusals.specs.Refusals.{block_order};
 
-use refusals::{BAD_SCHEDULE, BLOCK_LENGTH, DONE, NO_ROOM};
+use refusals::{Answer, Refusal, refuse_if};
 
-pub fn first(schedule: bool, block: bool, room: bool) -> u8
-    ensures { result ≡ block_order schedule block room }
+pub fn first(schedule: bool, block: bool, room: bool) -> Answer
+    ensures { number result ≡ block_order schedule block room }
 {
-    if schedule {
-        return BAD_SCHEDULE;
-    }
-    if block {
-        return BLOCK_LENGTH;
-    }
-    if room {
-        return NO_ROOM;
-    }
-    DONE
+    refuse_if(schedule, Refusal::BadSchedule)?;
+    refuse_if(block, Refusal::BlockLength)?;
+    refuse_if(room, Refusal::NoRoom)
 }

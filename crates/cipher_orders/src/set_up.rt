@@ -1,20 +1,14 @@
 // Set-up: the first of its refusals that applies.
 ghost use Rattle.std.specs.Prelude.{◌≡◌};
+ghost use Rattle.refusals.specs.Numbers.{number};
 ghost use Rattle.refusals.specs.Refusals.{set_up_order};
 
-use refusals::{BLANK_KEY, DONE, KEY_LENGTH, UNKNOWN_CIPHER};
+use refusals::{Answer, Refusal, refuse_if};
 
-pub fn first(cipher: bool, length: bool, blank: bool) -> u8
-    ensures { result ≡ set_up_order cipher length blank }
+pub fn first(cipher: bool, length: bool, blank: bool) -> Answer
+    ensures { number result ≡ set_up_order cipher length blank }
 {
-    if cipher {
-        return UNKNOWN_CIPHER;
-    }
-    if length {
-        return KEY_LENGTH;
-    }
-    if blank {
-        return BLANK_KEY;
-    }
-    DONE
+    refuse_if(cipher, Refusal::UnknownCipher)?;
+    refuse_if(length, Refusal::KeyLength)?;
+    refuse_if(blank, Refusal::BlankKey)
 }

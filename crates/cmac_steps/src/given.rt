@@ -9,7 +9,6 @@ pub fn is_seal(given: &[u8], seal: [u8; 16]) -> bool
     if given.len() != 16 {
         return false;
     }
-    let block = runs::block_at(given, 0);
-    let differences = words::bytes::xor16(block, seal);
+    let differences = words::bytes::xor(runs::part(given, 0), seal);
     runs::zero_from(&differences, 0)
 }

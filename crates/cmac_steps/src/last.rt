@@ -22,10 +22,8 @@ fn shl1(x: [u8; 16]) -> [u8; 16]
     ensures { result ≡ cmac.shl1 x }
 {
     let mut y = [0u8; 16];
-    let mut i = 0;
-    while i < 16 {
+    for i in 0..16 {
         y[i] = up(byte(x, i), byte(x, i + 1));
-        i += 1;
     }
     y
 }
@@ -39,7 +37,7 @@ fn doubled(x: [u8; 16]) -> [u8; 16]
         return y;
     }
     let r128: [u8; 16] = [0, 0, 0, 0, 0, 0, 0, 0, 0, 0, 0, 0, 0, 0, 0, 135];
-    words::bytes::xor16(y, r128)
+    words::bytes::xor(y, r128)
 }
 
 // M_n of the n held bytes, with K1 and K2 made of L.
@@ -50,9 +48,9 @@ pub fn masked(l: [u8; 16], held: [u8; 16], n: usize) -> [u8; 16]
     let k1 = doubled(l);
     let k2 = doubled(k1);
     if n == 16 {
-        return words::bytes::xor16(k1, held);
+        return words::bytes::xor(k1, held);
     }
     let mut m = held;
     m[n] = 128;
-    words::bytes::xor16(k2, m)
+    words::bytes::xor(k2, m)
 }

@@ -23,7 +23,7 @@ use Rattle.stream.specs.State.{fresh, zero_stream}
 use Rattle.stream.specs.Calls.{start_refusal, started_as, start}
 use Rattle.demands.specs.Demand3.{Call, accepted_bytes, written_bytes, CutAnywhere}
 use Rattle.stream.specs.declared.Stream.{Stream}
-use Rattle.stream.specs.declared.Started.{Started}
+use Rattle.stream.specs.Numbered.{Started}
 use Rattle.demands.proofs.Demand3.{demand3_at}
 
 module _ (s : Schedule) (d : ℕ) (first : List ℕ) where

@@ -16,8 +16,8 @@ use Rattle.pieces.specs.Pieces.{limit, held15}
 use Rattle.stream.specs.State.{held_number, at_hand, bad_state}
 use Rattle.stream.specs.Calls.{made, piece_refusal, fed, fed_as, feed, feed_out, closed_stream, finish}
 use Rattle.stream.specs.declared.Stream.{Stream}
-use Rattle.stream.specs.declared.Fed.{Fed}
-use Rattle.stream.specs.declared.Finished.{Finished}
+use Rattle.stream.specs.Numbered.{Fed}
+use Rattle.stream.specs.Numbered.{Finished}
 use Rattle.pieces.proofs.Hand.{hand_length}
 use Rattle.stream.proofs.Outcomes.{good, good_open, closed-held, accepted_piece, finish_refused, finish_accepted}
 use Rattle.demands.proofs.Answers.{finish_closed, finish_held, finish_done}

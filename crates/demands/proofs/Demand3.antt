@@ -26,8 +26,8 @@ use Rattle.stream.specs.Calls.{piece_refusal, fed, fed_as, fed_bytes, feed, feed
 use Rattle.demands.specs.Demand3.{Call, next, accepted, written, after, accepted_bytes, written_bytes, CutAnywhere}
 use Rattle.demands.specs.Demand3.Call.{piece, end}
 use Rattle.stream.specs.declared.Stream.{Stream}
-use Rattle.stream.specs.declared.Fed.{Fed}
-use Rattle.stream.specs.declared.Finished.{Finished}
+use Rattle.stream.specs.Numbered.{Fed}
+use Rattle.stream.specs.Numbered.{Finished}
 use Rattle.stream.proofs.Outcomes as outcomes
 use Rattle.stream.proofs.Outcomes.{good_open, closed-held}
 use Rattle.demands.proofs.Answers.{piece_closed, finish_closed}

@@ -5,15 +5,13 @@ ghost use Rattle.std.specs.Prelude.{◌≡◌, ◌+◌, ◌≤◌, length, get_o
 ghost use Rattle.laws.specs.Bytes.{bytes_of};
 ghost use Rattle.laws.specs.Places.{tab, part, quarters};
 ghost use Rattle.words.specs.KeyLength.{KeyLength};
-ghost use Rattle.e2_table.specs.Substitution.{s_table};
 ghost use Rattle.e2_steps.specs.Steps.{S, P};
 ghost use Rattle.e2_steps.specs.code.Layout.{pair_bytes};
 ghost use Rattle.e2_keys.specs.Keys.{g, full_key, Y, L, round_keys};
 ghost use Rattle.e2_keys.specs.code.Layout.{four_halves, apart};
 
-use e2_steps::half;
 use e2_steps::half::Pair;
-use e2_table::table;
+use e2_table::Table;
 use words::word::{byte0, byte1, byte2, byte3};
 
 // Four sub-blocks of 8 bytes: K, or the X, the L and the Y of G.
@@ -35,58 +33,51 @@ fn constant() -> Pair
     }
 }
 
-// K2: of the key, or S three times on the constant.
-fn k2(table: &[u8], key: &[u8]) -> Pair
-    requires table_value { table.now ≡ s_table }
-    requires key_length { KeyLength (length key.now) }
+// K2: of the key, or S three times on the constant. (No type for a key of a legal length: what it would take off these steps,
+// `round_keys`, which callers give any such key, would have to build.)
+fn k2(table: &Table, key: &[u8]) -> Pair
+    requires { KeyLength (length key.now) }
     ensures { pair_bytes result ≡ part 0 16 8 (full_key key.now) }
 {
     if key.len() < 24 {
-        return half::s(table, half::s(table, half::s(table, constant())));
+        return constant().s(table).s(table).s(table);
     }
-    half::load(key, 16)
+    Pair::load(key, 16)
 }
 
 // K3: of the key, or S four times on the constant.
-fn k3(table: &[u8], key: &[u8]) -> Pair
-    requires table_value { table.now ≡ s_table }
-    requires key_length { KeyLength (length key.now) }
+fn k3(table: &Table, key: &[u8]) -> Pair
+    requires { KeyLength (length key.now) }
     ensures { pair_bytes result ≡ part 0 24 8 (full_key key.now) }
 {
     if key.len() < 32 {
-        return half::s(
-            table,
-            half::s(table, half::s(table, half::s(table, constant()))),
-        );
+        return constant().s(table).s(table).s(table).s(table);
     }
-    half::load(key, 24)
+    Pair::load(key, 24)
 }
 
 // K = (K0, K1, K2, K3).
-fn full_key(table: &[u8], key: &[u8]) -> Four
-    requires table_value { table.now ≡ s_table }
-    requires key_length { KeyLength (length key.now) }
+fn full_key(table: &Table, key: &[u8]) -> Four
+    requires { KeyLength (length key.now) }
     ensures { four_halves result ≡ quarters 0 8 (full_key key.now) }
 {
     Four {
-        x0: half::load(key, 0),
-        x1: half::load(key, 8),
+        x0: Pair::load(key, 0),
+        x1: Pair::load(key, 8),
         x2: k2(table, key),
         x3: k3(table, key),
     }
 }
 
 // P(S(x)).
-fn ps(table: &[u8], x: Pair) -> Pair
-    requires { table.now ≡ s_table }
+fn ps(table: &Table, x: Pair) -> Pair
     ensures { pair_bytes result ≡ P (S (pair_bytes x)) }
 {
-    half::p(half::s(table, x))
+    x.s(table).p()
 }
 
 // The Y of G(X, U): Yi := P(S(Xi)).
-fn g_y(table: &[u8], x: Four) -> Four
-    requires { table.now ≡ s_table }
+fn g_y(table: &Table, x: Four) -> Four
     ensures { four_halves result ≡ Y (four_halves x) }
 {
     Four {
@@ -98,17 +89,16 @@ fn g_y(table: &[u8], x: Four) -> Four
 }
 
 // The L of G(X, U), from its Y: L0 := Y0 ⊕ P(S(U)), Li := P(S(L(i-1))) ⊕ Yi. Its V is L3.
-fn g_l(table: &[u8], y: Four, u: Pair) -> Four
-    requires { table.now ≡ s_table }
+fn g_l(table: &Table, y: Four, u: Pair) -> Four
     ensures { four_halves result ≡ L (four_halves y) (pair_bytes u) }
 {
-    let l0 = half::xor(y.x0, ps(table, u));
+    let l0 = y.x0 ^ ps(table, u);
     let m1 = ps(table, l0);
-    let l1 = half::xor(m1, y.x1);
+    let l1 = m1 ^ y.x1;
     let m2 = ps(table, l1);
-    let l2 = half::xor(m2, y.x2);
+    let l2 = m2 ^ y.x2;
     let m3 = ps(table, l2);
-    let l3 = half::xor(m3, y.x3);
+    let l3 = m3 ^ y.x3;
     Four {
         x0: l0,
         x1: l1,
@@ -153,32 +143,20 @@ fn put_four(keys: &mut [u8], at: usize, l: Four)
     put(keys, at + 17, l.x3);
 }
 
-// The round keys, with the table lent: G on K and the constant, and then eight times on the Y and the V that came of it, which gives q0 .. q31.
-fn round_keys_with(table: &[u8], key: &[u8]) -> [u8; 288]
-    requires table_value { table.now ≡ s_table }
-    requires key_length { KeyLength (length key.now) }
-    ensures { result ≡ tab 288 (λ n. get_or (round_keys key.now) n 0) }
-{
-    let mut y = g_y(table, full_key(table, key));
-    let mut l = g_l(table, y, constant());
-    let mut r = [0u8; 288];
-    let mut i: usize = 0;
-    while i < 8 {
-        let next_y = g_y(table, y);
-        let next_l = g_l(table, next_y, l.x3);
-        put_four(&mut r, i * 2, next_l);
-        y = next_y;
-        l = next_l;
-        i += 1;
-    }
-    r
-}
-
-// The round keys of a key of 16, 24 or 32 bytes: k1 .. k16, and zeros behind them.
+// The round keys of a key of 16, 24 or 32 bytes: k1 .. k16, and zeros after them. G on K and the constant, and then eight times on the Y and the V that came of
+// it, gives q0 .. q31.
 pub fn round_keys(key: &[u8]) -> [u8; 288]
     requires { KeyLength (length key.now) }
     ensures { result ≡ tab 288 (λ n. get_or (round_keys key.now) n 0) }
 {
-    let t = table();
-    round_keys_with(&t, key)
+    let table = Table::new();
+    let mut y = g_y(&table, full_key(&table, key));
+    let mut l = g_l(&table, y, constant());
+    let mut r = [0u8; 288];
+    for i in 0..8 {
+        y = g_y(&table, y);
+        l = g_l(&table, y, l.x3);
+        put_four(&mut r, i * 2, l);
+    }
+    r
 }

@@ -6,6 +6,7 @@ ghost use Rattle.laws.specs.Places.{part};
 ghost use Rattle.e2_steps.specs.Steps.{inverse, times, over};
 ghost use Rattle.e2_steps.specs.code.Layout.{quad_bytes};
 
+use std::ops::BitXor;
 use words::word::{put, word_at};
 
 // A block.
@@ -17,40 +18,70 @@ pub struct Quad {
     pub d: u32,
 }
 
-// The block that stands in some bytes from a place on.
-pub fn load(bytes: &[u8], at: usize) -> Quad
-    requires { at + 16 ≤ length bytes.now }
-    ensures { quad_bytes result ≡ part 0 at 16 bytes.now }
-{
-    Quad {
-        a: word_at(bytes, at),
-        b: word_at(bytes, at + 4),
-        c: word_at(bytes, at + 8),
-        d: word_at(bytes, at + 12),
+impl Quad {
+    // The block that stands in some bytes from a place on.
+    pub fn load(bytes: &[u8], at: usize) -> Self
+        requires { at + 16 ≤ length bytes.now }
+        ensures { quad_bytes result ≡ part 0 at 16 bytes.now }
+    {
+        Quad {
+            a: word_at(bytes, at),
+            b: word_at(bytes, at + 4),
+            c: word_at(bytes, at + 8),
+            d: word_at(bytes, at + 12),
+        }
+    }
+
+    // The bytes of a block. Not `From`, since `load`, whose pair it is, takes a place.
+    pub fn store(self) -> [u8; 16]
+        ensures { result ≡ quad_bytes self }
+    {
+        let mut r = [0u8; 16];
+        put(&mut r, 0, self.a);
+        put(&mut r, 4, self.b);
+        put(&mut r, 8, self.c);
+        put(&mut r, 12, self.d);
+        r
+    }
+
+    // X ⊗ Y.
+    pub fn times(self, y: Self) -> Self
+        ensures { quad_bytes result ≡ times (quad_bytes self) (quad_bytes y) }
+    {
+        Quad {
+            a: times_word(self.a, y.a),
+            b: times_word(self.b, y.b),
+            c: times_word(self.c, y.c),
+            d: times_word(self.d, y.d),
+        }
+    }
+
+    // X ⊘ Y, which undoes it.
+    pub fn over(self, y: Self) -> Self
+        ensures { quad_bytes result ≡ over (quad_bytes self) (quad_bytes y) }
+    {
+        Quad {
+            a: over_word(self.a, y.a),
+            b: over_word(self.b, y.b),
+            c: over_word(self.c, y.c),
+            d: over_word(self.d, y.d),
+        }
     }
 }
 
-// The bytes of a block.
-pub fn store(w: Quad) -> [u8; 16]
-    ensures { result ≡ quad_bytes w }
-{
-    let mut r = [0u8; 16];
-    put(&mut r, 0, w.a);
-    put(&mut r, 4, w.b);
-    put(&mut r, 8, w.c);
-    put(&mut r, 12, w.d);
-    r
-}
-
 // X ⊕ Y.
-pub fn xor(x: Quad, y: Quad) -> Quad
-    ensures { quad_bytes result ≡ xor_l 16 (quad_bytes x) (quad_bytes y) }
-{
-    Quad {
-        a: x.a ^ y.a,
-        b: x.b ^ y.b,
-        c: x.c ^ y.c,
-        d: x.d ^ y.d,
+impl BitXor for Quad {
+    type Output = Self;
+
+    ghost bitxor_gives = { λ x y r. quad_bytes r ≡ xor_l 16 (quad_bytes x) (quad_bytes y) };
+
+    fn bitxor(self, other: Self) -> Self {
+        Quad {
+            a: self.a ^ other.a,
+            b: self.b ^ other.b,
+            c: self.c ^ other.c,
+            d: self.d ^ other.d,
+        }
     }
 }
 
@@ -89,18 +120,6 @@ fn times_word(x: u32, y: u32) -> u32
     product(x, y | 1)
 }
 
-// X ⊗ Y.
-pub fn times(x: Quad, y: Quad) -> Quad
-    ensures { quad_bytes result ≡ times (quad_bytes x) (quad_bytes y) }
-{
-    Quad {
-        a: times_word(x.a, y.a),
-        b: times_word(x.b, y.b),
-        c: times_word(x.c, y.c),
-        d: times_word(x.d, y.d),
-    }
-}
-
 // One word of X ⊘ Y.
 fn over_word(x: u32, y: u32) -> u32
     ensures { result ≡ x * inverse (bit_or y 1) % 2 ^ 32 }
@@ -108,16 +127,4 @@ fn over_word(x: u32, y: u32) -> u32
     let odd = y | 1;
     let i = inverse(odd);
     product(x, i)
-}
-
-// X ⊘ Y, which undoes it.
-pub fn over(x: Quad, y: Quad) -> Quad
-    ensures { quad_bytes result ≡ over (quad_bytes x) (quad_bytes y) }
-{
-    Quad {
-        a: over_word(x.a, y.a),
-        b: over_word(x.b, y.b),
-        c: over_word(x.c, y.c),
-        d: over_word(x.d, y.d),
-    }
 }

@@ -1,5 +1,5 @@
-// E2's substitution (001, 's' and its table 1): the table, and s of one byte. The table is copied once and lent down: a constant that is
-// read where it is used is written out anew each time.
+// E2's substitution (001, 's' and its table 1): s of one byte, by the table. A constant that is read where it is used is written
+// out anew each time, so a `Table` is made once and borrowed.
 #![tactic(auto)]
 
 ghost use Rattle.std.specs.Prelude.{◌≡◌};
@@ -21,17 +21,24 @@ const SBOX: [u8; 256] = [
     178, 89, 230, 181, 54, 82, 74, 42,
 ];
 
-// The table, for a caller to copy once and lend.
-pub fn table() -> [u8; 256]
-    ensures { result ≡ s_table }
-{
-    SBOX
+// The table at work. It is copied once, by `new`, and borrowed from there on.
+#[derive(Drop)]
+pub struct Table {
+    bytes: [u8; 256],
+    ghost is_s: { bytes ≡ s_table },
 }
 
-// s of one byte.
-pub fn s_byte(table: &[u8], x: u8) -> u8
-    requires { table.now ≡ s_table }
-    ensures { result ≡ s x }
-{
-    table[x as usize]
+impl Table {
+    pub fn new() -> Self
+        ensures { result.bytes ≡ s_table }
+    {
+        Table { bytes: SBOX }
+    }
+
+    // s of one byte.
+    pub fn s(&self, x: u8) -> u8
+        ensures { result ≡ s x }
+    {
+        self.bytes[x as usize]
+    }
 }

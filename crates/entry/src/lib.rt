@@ -2,15 +2,17 @@
 #![tactic(auto)]
 
 ghost use Rattle.std.specs.Prelude.{◌≡◌};
+ghost use Rattle.refusals.specs.Numbers.{number};
 ghost use Rattle.entry.specs.Entry.{entry_refusal, WorksForC, TellsVersion};
 
 use blocks_lent::Way;
 use cipher_blocks::alone;
 use cipher_numbers::blank;
+use refusals::Answer;
 
-// The refusal of a call with this key and these lengths of block and output, or 0.
-pub fn refusal(cipher: u64, direction: u64, key: &[u8], block: usize, room: usize) -> u8
-    ensures { result ≡ entry_refusal cipher direction key.now block room }
+// Whether a call is done, with this key and these lengths of block and output.
+pub fn refusal(cipher: u64, direction: u64, key: &[u8], block: usize, room: usize) -> Answer
+    ensures { number result ≡ entry_refusal cipher direction key.now block room }
 {
     let unknown = !cipher_numbers::is_cipher(cipher);
     let length = !cipher_numbers::is_length(cipher, key.len());
@@ -29,9 +31,8 @@ pub fn tlilcueyoh_block(
 ) -> u64
     ensures { WorksForC cipher direction key.now input.now output.old result output.new }
 {
-    let no = refusal(cipher, direction, key, input.len(), output.len());
-    if no != refusals::DONE {
-        return no as u64;
+    if let Err(no) = refusal(cipher, direction, key, input.len(), output.len()) {
+        return no.number() as u64;
     }
     let keys = cipher_numbers::round_keys(cipher, key);
     let way = Way {
@@ -40,7 +41,7 @@ pub fn tlilcueyoh_block(
         direction,
     };
     alone::run(&keys, way, input, output, 1);
-    refusals::DONE as u64
+    0
 }
 
 // The version of the call and its answers, for a host to compare with its header's.

@@ -2,124 +2,98 @@
 #![tactic(auto)]
 
 use card_fields::{CLIMB, DROP, Fields, HOLD};
-
-// Why the time to a target can't be said, or that it can.
-pub const SAID: u8 = 0;
-
-pub const CLIMBS_DOWN: u8 = 1;
-
-pub const DROPS_UP: u8 = 2;
-
-pub const HOLDS_ELSEWHERE: u8 = 3;
-
-pub const NO_RATE: u8 = 4;
+use card_segments::Segments;
 
 // 20.0 degrees.
 pub const BEGINNING: u16 = 200;
 
-pub fn cause(f: Fields, from: u16) -> u8 {
-    if f.target == from {
-        return SAID;
-    }
-    if (f.kind == CLIMB) & (f.target < from) {
-        return CLIMBS_DOWN;
-    }
-    if (f.kind == DROP) & (f.target > from) {
-        return DROPS_UP;
-    }
-    if f.kind == HOLD {
-        return HOLDS_ELSEWHERE;
-    }
-    if f.rate == 0 {
-        return NO_RATE;
-    }
-    SAID
+// Why the time to a target can't be said.
+#[derive(Clone, Copy)]
+pub enum Reason {
+    ClimbsDown,
+    DropsUp,
+    HoldsElsewhere,
+    NoRate,
 }
 
-fn apart(a: u16, b: u16) -> u16 {
-    if a < b { b - a } else { a - b }
+// The reason where the kiln is at `from` tenths, if there is one.
+pub fn cause(f: Fields, from: u16) -> Option<Reason> {
+    if f.target == from {
+        return None;
+    }
+    match f.kind {
+        CLIMB if f.target < from => Some(Reason::ClimbsDown),
+        DROP if f.target > from => Some(Reason::DropsUp),
+        HOLD => Some(Reason::HoldsElsewhere),
+        _ if f.rate == 0 => Some(Reason::NoRate),
+        _ => None,
+    }
 }
 
 // The seconds for so many tenths at a rate, to the nearest, a half up; 0 without a rate.
 fn seconds(from: u16, to: u16, rate: u16) -> u32 {
-    let r = rate as u32;
-    if r == 0 {
+    if rate == 0 {
         return 0;
     }
-    (apart(from, to) as u32 * 7200 + r) / (2 * r)
+    let rate = u32::from(rate);
+    (u32::from(from.abs_diff(to)) * 7200 + rate) / (2 * rate)
 }
 
 // The seconds to a segment's target, or 0 where that can't be said.
 pub fn going(f: Fields, from: u16) -> u32 {
-    if cause(f, from) != SAID {
-        return 0;
+    match cause(f, from) {
+        Some(_) => 0,
+        None => seconds(from, f.target, f.rate),
     }
-    seconds(from, f.target, f.rate)
 }
 
 pub fn holding(f: Fields) -> u32 {
-    f.hold as u32 * 60
+    u32::from(f.hold) * 60
 }
 
-// A sum, or the greatest number where it is more.
-pub fn plus(a: u32, b: u32) -> u32 {
-    if a > 4294967295 - b {
-        return 4294967295;
-    }
-    a + b
+// A segment whose time can't be said, and where the kiln was before it.
+#[derive(Clone, Copy)]
+pub struct Unsaid {
+    pub reason: Reason,
+    pub segment: Fields,
+    pub from: u16,
 }
 
-// A recipe gone through up to some segment: the seconds together, where the kiln is, the highest that it was; and of the
-// first segment whose time can't be said the cause, its fields and where the kiln was before it.
+// A recipe gone through up to some segment: the seconds together, where the kiln is, the highest that it was; and the first
+// segment whose time can't be said.
 #[derive(Clone, Copy)]
 pub struct Time {
     pub seconds: u32,
     pub now: u16,
     pub peak: u16,
-    pub cause: u8,
-    pub segment: Fields,
-    pub from: u16,
+    pub unsaid: Option<Unsaid>,
 }
 
-fn begun() -> Time {
-    Time {
-        seconds: 0,
-        now: BEGINNING,
-        peak: BEGINNING,
-        cause: SAID,
-        segment: card_fields::of([0u8; 16]),
-        from: BEGINNING,
-    }
-}
+const BEGUN: Time = Time {
+    seconds: 0,
+    now: BEGINNING,
+    peak: BEGINNING,
+    unsaid: None,
+};
 
 // A segment more.
-fn with(t: Time, f: Fields) -> Time {
-    let mut next = t;
-    let why = cause(f, t.now);
-    if (t.cause == SAID) & (why != SAID) {
-        next.cause = why;
-        next.segment = f;
-        next.from = t.now;
+fn with(t: Time, segment: Fields) -> Time {
+    let unsaid = cause(segment, t.now).map(|reason| Unsaid {
+        reason,
+        segment,
+        from: t.now,
+    });
+    Time {
+        seconds: t
+            .seconds
+            .saturating_add(going(segment, t.now))
+            .saturating_add(holding(segment)),
+        now: segment.target,
+        peak: t.peak.max(segment.target),
+        unsaid: t.unsaid.or(unsaid),
     }
-    next.seconds = plus(plus(t.seconds, going(f, t.now)), holding(f));
-    next.now = f.target;
-    if f.target > t.peak {
-        next.peak = f.target;
-    }
-    next
 }
 
-// The recipe whose first segment is number `first` of the card's.
-pub fn takes(card: &[u8], keys: &[u32], first: usize, recipe: u16) -> Time {
-    let mut t = begun();
-    let mut i = first;
-    while i < keys.len() {
-        if !card_segments::is_of(keys, i, recipe) {
-            return t;
-        }
-        let f = card_segments::fields(card, keys, i);
-        t = with(t, f);
-        i += 1;
-    }
-    t
+pub fn takes(segments: Segments) -> Time {
+    segments.fold(BEGUN, with)
 }

@@ -6,11 +6,11 @@ use Prim.Native.Nat.{ℕ, zero, suc, ◌+◌, ◌*◌, ◌/◌, ◌%◌, ◌≤�
 use native.Mathlib.Omega.{arith}
 use lib.Dec.{eqb, eqb→eq}
 use lib.ListN.{length, get_or, drop}
+use Rattle.std.specs.Prelude.{Ok}
 use Rattle.laws.specs.Bytes.{Byte, Bytes}
 use Rattle.laws.proofs.Places.{each_head, each_tail}
 use Rattle.hex_text.specs.Hex.{smalls, white, value, bad, digits, joined, Good}
 use Rattle.hex_digits.specs.Read.{Read}
-use Rattle.hex_digits.specs.declared.Reading.TheVariants as Reading
 use Rattle.hex_text.proofs.Ranges.{passed, is_false}
 use Rattle.hex_digits.proofs.Outcomes.{bytes}
 
@@ -64,7 +64,7 @@ spelling_bytes (suc n) (b ∷ bs) h =
     let e : b / 16 * 16 + b % 16 ≡ b = omega arith in
     ap joined (spelling-cons b bs (each_head h)) ∙ ap₂ (λ (x : ℕ) (l : List ℕ). x ∷ l) e (spelling_bytes n bs (each_tail h))
 
-pub spelt : (n : ℕ) (bs before : List ℕ) → Bytes n bs → n ≤ length before → Read (spelling bs) before (Reading.Bytes n) (bs ++ drop n before)
+pub spelt : (n : ℕ) (bs before : List ℕ) → Bytes n bs → n ≤ length before → Read (spelling bs) before (Ok n) (bs ++ drop n before)
 spelt n bs before h room =
     let good = spelling_good n bs h in
     let half : 2 * n / 2 ≡ n = omega arith in

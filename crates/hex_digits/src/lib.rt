@@ -5,11 +5,9 @@ ghost use Rattle.hex_digits.specs.Read.{Read};
 
 use hex_text::text;
 
-// What a text was taken for.
-#[derive(Drop)]
-pub enum Reading {
-    // So many bytes, at the front of the output.
-    Bytes(usize),
+// Why a text spells no bytes.
+#[derive(Clone, Copy)]
+pub enum Misspelled {
     // The place, from 0, of the first character that is neither a digit nor white space.
     BadCharacter(usize),
     // How many digits, an odd number.
@@ -18,21 +16,21 @@ pub enum Reading {
     NoRoom(usize),
 }
 
-// The bytes of a text to the front of the output, which is left as it was where the text is refused.
-pub fn read(text: &[u8], out: &mut [u8]) -> Reading
+// The bytes of a text to the front of the output, and how many; where the text spells none, the output is left as it was.
+pub fn read(text: &[u8], out: &mut [u8]) -> Result<usize, Misspelled>
     ensures { Read text.now out.old result out.new }
 {
     let bad = text::first_bad(text);
     if bad < text.len() {
-        return Reading::BadCharacter(bad);
+        return Err(Misspelled::BadCharacter(bad));
     }
     let digits = text::count(text);
     if digits % 2 == 1 {
-        return Reading::OddDigits(digits);
+        return Err(Misspelled::OddDigits(digits));
     }
     if out.len() < digits / 2 {
-        return Reading::NoRoom(digits / 2);
+        return Err(Misspelled::NoRoom(digits / 2));
     }
     text::write(text, digits / 2, out);
-    Reading::Bytes(digits / 2)
+    Ok(digits / 2)
 }

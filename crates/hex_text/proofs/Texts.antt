@@ -1,6 +1,8 @@
 -- Steps through a text of hex digits: the first bad character, the next digit, the next byte, and the bytes laid out.
 use mathlib.Core.Path.{◌≡◌, refl, sym, ap, ◌∙◌}
-use mathlib.Core.Bool.{Bool, true, false}
+use mathlib.Core.Bool.{Bool, true, false, not, cond}
+use Rattle.std.specs.List.{count_by}
+use Rattle.std.proofs.lemmas.List.Recursion.{is_count_by}
 use mathlib.Core.List.{List, [], ◌∷◌, ◌++◌, append-nil}
 use Prim.Native.Nat.{ℕ, zero, suc, ◌+◌, ◌*◌, ◌≤◌, ◌<◌, suc-le-suc}
 use native.Mathlib.Nat.{le_of_suc-le-suc, not-suc-le-zero}
@@ -14,7 +16,7 @@ use Rattle.hex_text.specs.Hex.{white, value, bad, byte, first_bad, digits, joine
 use Rattle.laws.specs.Choice.{choose}
 use Rattle.hex_text.specs.Steps.{NextDigit, NextByte}
 
--- ---- the first bad character
+-- ---- the first bad character, and how many digits there are
 pub bad_here : (l : List ℕ) (i : ℕ) → i < length l → bad (get_or l i 0) ≡ true → first_bad (drop i l) ≡ 0
 bad_here l i h e = rw (drop-cons l i 0, e)
 
@@ -23,6 +25,13 @@ bad_later l i h e = rw (add-one, drop-cons l i 0, e)
 
 pub bad_end : (l : List ℕ) (i : ℕ) → length l ≤ i → first_bad (drop i l) ≡ 0
 bad_end l i h = rw drop_of_length-le
+
+pub digits_are : (l : List ℕ) → length (digits l) ≡ count_by (λ c. not (white c)) l
+digits_are = is_count_by (λ l. length (digits l)) (λ c. not (white c)) refl (λ c l. at_one (white c) (value c) (digits l))
+  where
+    at_one : (t : Bool) (v : ℕ) (ds : List ℕ) → length (choose t ds (v ∷ ds)) ≡ cond (not t) (1 + length ds) (length ds)
+    at_one true v ds = refl
+    at_one false v ds = omega arith
 
 pub bad_within : (l : List ℕ) → first_bad l ≤ length l
 bad_within [] = omega arith

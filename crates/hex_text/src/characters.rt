@@ -6,10 +6,7 @@ ghost use Rattle.hex_text.specs.Hex.{value as hex_value};
 pub fn is_white(c: u8) -> bool
     ensures { result ≡ white c }
 {
-    match c {
-        9..=13 | 32 => true,
-        _ => false,
-    }
+    matches!(c, 9..=13 | 32)
 }
 
 // A digit's value, or 16 where it is none.
@@ -24,11 +21,9 @@ pub fn value(c: u8) -> u8
     }
 }
 
+#[tactic(auto, unfolding(crate::specs::Hex::bad))]
 pub fn is_bad(c: u8) -> bool
     ensures { result ≡ bad c }
 {
-    if is_white(c) {
-        return false;
-    }
-    value(c) == 16
+    !is_white(c) && value(c) == 16
 }

@@ -10,32 +10,23 @@ use crate::characters;
 pub fn first_bad(text: &[u8]) -> usize
     ensures { result ≡ first_bad text.now }
 {
-    let mut i: usize = 0;
-    while i < text.len() {
-        if characters::is_bad(text[i]) {
+    for (i, c) in text.iter().enumerate() {
+        if characters::is_bad(*c) {
             return i;
         }
-        i += 1;
     }
-    i
+    text.len()
 }
 
 // How many characters are not white space.
+#[tactic(auto, using(crate::proofs::Texts::digits_are))]
 pub fn count(text: &[u8]) -> usize
     ensures { result ≡ length (digits text.now) }
 {
-    let mut n: usize = 0;
-    let mut i: usize = 0;
-    while i < text.len() {
-        if !characters::is_white(text[i]) {
-            n += 1;
-        }
-        i += 1;
-    }
-    n
+    text.iter().filter(|c| !characters::is_white(**c)).count()
 }
 
-// The place of the next digit.
+// The place of the next digit. (A `while`: there is one, which `position` would answer as an Option to be taken apart.)
 fn digit_from(text: &[u8], from: usize) -> usize
     requires { 0 < length (digits (drop from text.now)) }
     ensures { NextDigit text.now from result }
@@ -80,11 +71,9 @@ pub fn write(text: &[u8], n: usize, out: &mut [u8])
     ensures { out.new ≡ joined (digits text.now) ++ drop n out.old }
 {
     let mut i: usize = 0;
-    let mut k: usize = 0;
-    while k < n {
+    for k in 0..n {
         let taken = byte_from(text, i);
         out[k] = taken.byte;
         i = taken.next;
-        k += 1;
     }
 }

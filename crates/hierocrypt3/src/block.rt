@@ -1,9 +1,8 @@
-// One block of Hierocrypt-3 both ways: 002, sections 2.1, 2.2, 3.1 and 3.3, on four columns of four bytes by value, with the tables and the round keys lent.
+// One block of Hierocrypt-3 both ways: 002, sections 2.1, 2.2, 3.1 and 3.3, on four columns of four bytes by value, with the tables and the round
+// keys borrowed, as two parameters, since half of the steps take one alone.
 ghost use Rattle.std.specs.Prelude.{◌≡◌, ◌+◌, ◌≤◌, ◌<◌, ltb};
 ghost use Rattle.laws.specs.Choice.{choose};
 ghost use Rattle.laws.specs.Places.{part, quarters, joined};
-ghost use Rattle.words.specs.KeyLength.{KeyLength};
-ghost use Rattle.hierocrypt3_tables.specs.code.Tables.{s_table, s_table⁻, t_table, u_table};
 ghost use Rattle.hierocrypt3_steps.specs.Operations.{MDSH⁻};
 ghost use Rattle.hierocrypt3_steps.specs.code.Columns.{s_column, s_column⁻};
 ghost use Rattle.hierocrypt3.specs.Block.{add_key, first_half, XS, XS⁻, round_key, encryption, decryption, encipher, decipher};
@@ -12,6 +11,9 @@ ghost use Rattle.hierocrypt3.specs.code.Columns.{key_column, xs_column, xs_colum
 use hierocrypt3_steps::mds_h::{mds_h, mds_h_inverse};
 use hierocrypt3_steps::mds_l::{mds_l_inverse, mds_l_of_s};
 use hierocrypt3_steps::substitution::{s_column, s_column_inverse};
+use hierocrypt3_tables::constants::Length;
+use hierocrypt3_tables::forward::{Forward, Sbox};
+use hierocrypt3_tables::inverse::{Inverse, Unsbox};
 
 // A column xored with four bytes of the round keys.
 fn key_column(keys: &[u8; 288], at: usize, x: [u8; 4]) -> [u8; 4]
@@ -27,48 +29,45 @@ fn key_column(keys: &[u8; 288], at: usize, x: [u8; 4]) -> [u8; 4]
 }
 
 // A column xored with four bytes of the round keys, then s at each byte.
-fn keyed_s(sbox: &[u8], keys: &[u8; 288], at: usize, x: [u8; 4]) -> [u8; 4]
-    requires { (sbox.now ≡ s_table) × (at + 4 ≤ 288) }
+fn keyed_s(sbox: &Sbox, keys: &[u8; 288], at: usize, x: [u8; 4]) -> [u8; 4]
+    requires { at + 4 ≤ 288 }
     ensures { result ≡ s_column (key_column keys.now at x) }
 {
     s_column(sbox, key_column(keys, at, x))
 }
 
 // The inverse of it.
-fn keyed_s_inverse(unsbox: &[u8], keys: &[u8; 288], at: usize, x: [u8; 4]) -> [u8; 4]
-    requires { (unsbox.now ≡ s_table⁻) × (at + 4 ≤ 288) }
+fn keyed_s_inverse(unsbox: &Unsbox, keys: &[u8; 288], at: usize, x: [u8; 4]) -> [u8; 4]
+    requires { at + 4 ≤ 288 }
     ensures { result ≡ key_column keys.now at (s_column⁻ x) }
 {
     key_column(keys, at, s_column_inverse(unsbox, x))
 }
 
 // XS on a column: its key bytes stand at `at` and, for the second half, 16 further on.
-fn xs_column(sbox: &[u8], table: &[u32], keys: &[u8; 288], at: usize, x: [u8; 4]) -> [u8; 4]
-    requires { (sbox.now ≡ s_table) × (table.now ≡ t_table) × (at + 20 ≤ 288) }
+fn xs_column(tables: &Forward, keys: &[u8; 288], at: usize, x: [u8; 4]) -> [u8; 4]
+    requires { at + 20 ≤ 288 }
     ensures { result ≡ xs_column keys.now at x }
 {
-    let y = mds_l_of_s(table, key_column(keys, at, x));
-    keyed_s(sbox, keys, at + 16, y)
+    let y = mds_l_of_s(&tables.t_table, key_column(keys, at, x));
+    keyed_s(&tables.sbox, keys, at + 16, y)
 }
 
 // The inverse of XS on a column.
-fn xs_column_inverse(
-    unsbox: &[u8],
-    table: &[u32],
-    keys: &[u8; 288],
-    at: usize,
-    x: [u8; 4],
-) -> [u8; 4]
-    requires { (unsbox.now ≡ s_table⁻) × (table.now ≡ u_table) × (at + 20 ≤ 288) }
+fn xs_column_inverse(tables: &Inverse, keys: &[u8; 288], at: usize, x: [u8; 4]) -> [u8; 4]
+    requires { at + 20 ≤ 288 }
     ensures { result ≡ xs_column⁻ keys.now at x }
 {
-    let y = mds_l_inverse(table, keyed_s_inverse(unsbox, keys, at + 16, x));
-    keyed_s_inverse(unsbox, keys, at, y)
+    let y = mds_l_inverse(
+        &tables.u_table,
+        keyed_s_inverse(&tables.unsbox, keys, at + 16, x),
+    );
+    keyed_s_inverse(&tables.unsbox, keys, at, y)
 }
 
 // XS with round key i + 1.
-fn xs(sbox: &[u8], table: &[u32], keys: &[u8; 288], i: usize, x: [[u8; 4]; 4]) -> [[u8; 4]; 4]
-    requires { (sbox.now ≡ s_table) × (table.now ≡ t_table) × (i < 9) }
+fn xs(tables: &Forward, keys: &[u8; 288], i: usize, x: [[u8; 4]; 4]) -> [[u8; 4]; 4]
+    requires { i < 9 }
     ensures { result ≡ XS (round_key keys.now (i + 1)) x }
 {
     let at = i * 32;
@@ -77,22 +76,16 @@ fn xs(sbox: &[u8], table: &[u32], keys: &[u8; 288], i: usize, x: [[u8; 4]; 4]) -
     let x2 = x[2];
     let x3 = x[3];
     [
-        xs_column(sbox, table, keys, at, x0),
-        xs_column(sbox, table, keys, at + 4, x1),
-        xs_column(sbox, table, keys, at + 8, x2),
-        xs_column(sbox, table, keys, at + 12, x3),
+        xs_column(tables, keys, at, x0),
+        xs_column(tables, keys, at + 4, x1),
+        xs_column(tables, keys, at + 8, x2),
+        xs_column(tables, keys, at + 12, x3),
     ]
 }
 
 // The inverse of XS with round key i + 1.
-fn xs_inverse(
-    unsbox: &[u8],
-    table: &[u32],
-    keys: &[u8; 288],
-    i: usize,
-    x: [[u8; 4]; 4],
-) -> [[u8; 4]; 4]
-    requires { (unsbox.now ≡ s_table⁻) × (table.now ≡ u_table) × (i < 9) }
+fn xs_inverse(tables: &Inverse, keys: &[u8; 288], i: usize, x: [[u8; 4]; 4]) -> [[u8; 4]; 4]
+    requires { i < 9 }
     ensures { result ≡ XS⁻ (round_key keys.now (i + 1)) x }
 {
     let at = i * 32;
@@ -101,10 +94,10 @@ fn xs_inverse(
     let x2 = x[2];
     let x3 = x[3];
     [
-        xs_column_inverse(unsbox, table, keys, at, x0),
-        xs_column_inverse(unsbox, table, keys, at + 4, x1),
-        xs_column_inverse(unsbox, table, keys, at + 8, x2),
-        xs_column_inverse(unsbox, table, keys, at + 12, x3),
+        xs_column_inverse(tables, keys, at, x0),
+        xs_column_inverse(tables, keys, at + 4, x1),
+        xs_column_inverse(tables, keys, at + 8, x2),
+        xs_column_inverse(tables, keys, at + 12, x3),
     ]
 }
 
@@ -127,18 +120,11 @@ fn add_key(keys: &[u8; 288], i: usize, x: [[u8; 4]; 4]) -> [[u8; 4]; 4]
 }
 
 // Round i + 1 of n + 1: XS, then MDS_H, but for the last.
-fn rho(
-    sbox: &[u8],
-    table: &[u32],
-    keys: &[u8; 288],
-    n: usize,
-    i: usize,
-    x: [[u8; 4]; 4],
-) -> [[u8; 4]; 4]
-    requires { (sbox.now ≡ s_table) × (table.now ≡ t_table) × (i < 9) }
+fn rho(tables: &Forward, keys: &[u8; 288], n: usize, i: usize, x: [[u8; 4]; 4]) -> [[u8; 4]; 4]
+    requires { i < 9 }
     ensures { result ≡ round_at keys.now n i x }
 {
-    let y = xs(sbox, table, keys, i, x);
+    let y = xs(tables, keys, i, x);
     if i < n {
         return mds_h(y);
     }
@@ -157,56 +143,39 @@ fn unmixed(n: usize, i: usize, x: [[u8; 4]; 4]) -> [[u8; 4]; 4]
 
 // The inverse of round i + 1 of n + 1.
 fn rho_inverse(
-    unsbox: &[u8],
-    table: &[u32],
+    tables: &Inverse,
     keys: &[u8; 288],
     n: usize,
     i: usize,
     x: [[u8; 4]; 4],
 ) -> [[u8; 4]; 4]
-    requires { (unsbox.now ≡ s_table⁻) × (table.now ≡ u_table) × (i < 9) }
+    requires { i < 9 }
     ensures { result ≡ round_at⁻ keys.now n i x }
 {
-    xs_inverse(unsbox, table, keys, i, unmixed(n, i, x))
+    xs_inverse(tables, keys, i, unmixed(n, i, x))
 }
 
 // n + 1 rounds on four columns. The round has one call site, so that it is compiled into the loop.
-fn encryption(
-    sbox: &[u8],
-    table: &[u32],
-    keys: &[u8; 288],
-    n: usize,
-    block: [[u8; 4]; 4],
-) -> [[u8; 4]; 4]
-    requires { (sbox.now ≡ s_table) × (table.now ≡ t_table) × (n < 8) }
+fn encryption(tables: &Forward, keys: &[u8; 288], n: usize, block: [[u8; 4]; 4]) -> [[u8; 4]; 4]
+    requires { n < 8 }
     ensures { result ≡ encryption n (round_key keys.now) block }
 {
     let mut x = block;
-    let mut i: usize = 0;
-    while i <= n {
-        let y = rho(sbox, table, keys, n, i, x);
+    for i in 0..n + 1 {
+        let y = rho(tables, keys, n, i, x);
         x = y;
-        i += 1;
     }
     add_key(keys, n + 1, x)
 }
 
 // The n + 1 rounds undone, the last first.
-fn decryption(
-    unsbox: &[u8],
-    table: &[u32],
-    keys: &[u8; 288],
-    n: usize,
-    block: [[u8; 4]; 4],
-) -> [[u8; 4]; 4]
-    requires { (unsbox.now ≡ s_table⁻) × (table.now ≡ u_table) × (n < 8) }
+fn decryption(tables: &Inverse, keys: &[u8; 288], n: usize, block: [[u8; 4]; 4]) -> [[u8; 4]; 4]
+    requires { n < 8 }
     ensures { result ≡ decryption n (round_key keys.now) block }
 {
     let mut x = add_key(keys, n + 1, block);
-    let mut i: usize = n + 1;
-    while 0 < i {
-        i -= 1;
-        let y = rho_inverse(unsbox, table, keys, n, i, x);
+    for i in (0..n + 1).rev() {
+        let y = rho_inverse(tables, keys, n, i, x);
         x = y;
     }
     x
@@ -246,30 +215,26 @@ fn bytes(x: [[u8; 4]; 4]) -> [u8; 16]
     ]
 }
 
-// One block enciphered, with the tables `sbox` and `t_table` lent.
+// One block enciphered, by its tables.
 pub fn encipher_with(
-    sbox: &[u8],
-    table: &[u32],
+    tables: &Forward,
     keys: &[u8; 288],
-    length: usize,
+    length: Length,
     block: [u8; 16],
 ) -> [u8; 16]
-    requires { (sbox.now ≡ s_table) × (table.now ≡ t_table) × KeyLength length }
-    ensures { result ≡ encipher length keys.now block }
+    ensures { result ≡ encipher length.bytes keys.now block }
 {
-    bytes(encryption(sbox, table, keys, length / 8 + 3, columns(block)))
+    bytes(encryption(tables, keys, length.bytes / 8 + 3, columns(block)))
 }
 
-// One block deciphered, with the tables `unsbox` and `u_table` lent.
+// One block deciphered, by the tables of the inverses.
 pub fn decipher_with(
-    unsbox: &[u8],
-    table: &[u32],
+    tables: &Inverse,
     keys: &[u8; 288],
-    length: usize,
+    length: Length,
     block: [u8; 16],
 ) -> [u8; 16]
-    requires { (unsbox.now ≡ s_table⁻) × (table.now ≡ u_table) × KeyLength length }
-    ensures { result ≡ decipher length keys.now block }
+    ensures { result ≡ decipher length.bytes keys.now block }
 {
-    bytes(decryption(unsbox, table, keys, length / 8 + 3, columns(block)))
+    bytes(decryption(tables, keys, length.bytes / 8 + 3, columns(block)))
 }

@@ -4,47 +4,16 @@ use mathlib.Core.List.{List, ◌++◌}
 use Prim.Native.Nat.{ℕ, zero, suc, ◌+◌, ◌-◌, ◌*◌, ◌/◌, ◌%◌, ◌≤◌, ◌<◌}
 use native.Mathlib.Nat.{not-suc-le-zero}
 use native.Mathlib.Numerals.{add-one}
-use native.Mathlib.Decide.{ℕ_discrete, dec_lt}
+use native.Mathlib.Decide.{dec_lt}
 use native.Mathlib.Omega.{arith}
-use lib.ListN.{length, get_or, set, replicate, length-set, get_or-append, get_or-eq_default}
-use lib.Seq.{get_or-set_same, get_or-set_other, get_or-append-add}
+use lib.ListN.{length, get_or, replicate, get_or-append, get_or-eq_default}
+use lib.Seq.{get_or-append-add}
 use Rattle.laws.specs.Places.{tab}
 use Rattle.laws.proofs.Places.{tab_is, get_or-tab, length-tab}
 use Rattle.hierocrypt3_keys.specs.declared.Intermediate.{Intermediate}
 use Rattle.hierocrypt3_steps.specs.Rounds.{T}
 use Rattle.hierocrypt3_keys.specs.code.Placed.{Placed}
 use Rattle.hierocrypt3_keys.specs.Keys.{next, Z, key_of, K, round_keys}
-
-pub placed_start : (at : ℕ) (k r : List ℕ) → Placed at 0 k r r
-placed_start at k r = record { long = refl; there = λ j h. absurd (not-suc-le-zero h); below = λ j h. refl; above = λ j h. refl }
-
-pub placed_step : {at n : ℕ} {k before r : List ℕ} → Placed at n k before r → at + n < length r
-    → Placed at (n + 1) k before (set r (at + n) (get_or k n 0))
-placed_step {at} {n} {k} {before} {r} w h =
-    record {
-      long = length-set r (at + n) (get_or k n 0) ∙ w.long;
-      there = λ j l. at_j j l (ℕ_discrete j n);
-      below = λ j l. other j (λ e. not_below j l e) ∙ w.below j l;
-      above = λ j l. other j (λ e. not_above j l e) ∙ w.above j (omega arith);
-    }
-  where
-    other : (j : ℕ) → (j ≡ at + n → ⊥) → get_or (set r (at + n) (get_or k n 0)) j 0 ≡ get_or r j 0
-    other j q = get_or-set_other r (at + n) j (get_or k n 0) 0 q
-
-    not_below : (j : ℕ) → j < at → j ≡ at + n → ⊥
-    not_below j l e = omega arith
-
-    not_above : (j : ℕ) → at + (n + 1) ≤ j → j ≡ at + n → ⊥
-    not_above j l e = omega arith
-
-    not_there : (j : ℕ) → (j ≡ n → ⊥) → at + j ≡ at + n → ⊥
-    not_there j q e = omega arith
-
-    at_j : (j : ℕ) → j < n + 1 → Dec (j ≡ n) → get_or (set r (at + n) (get_or k n 0)) (at + j) 0 ≡ get_or k j 0
-    at_j j l (yes p) =
-        ap (λ (m : ℕ). get_or (set r (at + n) (get_or k n 0)) (at + m) 0) p
-        ∙ get_or-set_same r (at + n) (get_or k n 0) 0 h ∙ ap (λ (m : ℕ). get_or k m 0) (sym p)
-    at_j j l (no q) = other (at + j) (not_there j q) ∙ w.there j (omega arith)
 
 -- a piece k of m bytes, then a piece l of n bytes
 pub placed_append : {at next m n : ℕ} {k l a b c : List ℕ} → length k ≡ m → next ≡ at + m → Placed at m k a b → Placed next n l b c

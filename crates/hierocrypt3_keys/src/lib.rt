@@ -3,7 +3,6 @@
 
 ghost use Rattle.std.specs.Prelude.{◌≡◌, ◌+◌, ◌/◌, ◌≤◌, ◌<◌, length, get_or};
 ghost use Rattle.laws.specs.Places.{tab};
-ghost use Rattle.hierocrypt3_tables.specs.code.Tables.{s_table};
 ghost use Rattle.words.specs.KeyLength.{KeyLength};
 ghost use Rattle.hierocrypt3_keys.specs.code.Placed.{Placed, pieces};
 ghost use Rattle.hierocrypt3_keys.specs.Keys.{t_turn, padding, σ0, σ, σ⁻, next, plaintext_side, ciphertext_side, key_of, round_keys};
@@ -11,9 +10,10 @@ ghost use Rattle.hierocrypt3_keys.specs.Keys.{t_turn, padding, σ0, σ, σ⁻, n
 use crate::operations::{
     f_sigma, m5e, mb3, p32_first, p32_inverse_first, p32_inverse_second, p32_second,
 };
-use hierocrypt3_tables::constants::{G0, H2_H3, H3_H2, constant};
-use hierocrypt3_tables::forward;
-use words::bytes::{eight, xor8};
+use hierocrypt3_tables::constants::{G0, H2_H3, H3_H2, Length, constant};
+use hierocrypt3_tables::forward::Sbox;
+use runs::part;
+use words::bytes::xor;
 
 mod operations;
 
@@ -40,8 +40,8 @@ fn padding(key: &[u8]) -> Intermediate
     requires { KeyLength (length key.now) }
     ensures { result ≡ padding key.now }
 {
-    let k1 = eight(key, 0);
-    let k2 = eight(key, 8);
+    let k1 = part(key, 0);
+    let k2 = part(key, 8);
     if key.len() == 16 {
         let h = H3_H2;
         return Intermediate {
@@ -51,7 +51,7 @@ fn padding(key: &[u8]) -> Intermediate
             z4: h,
         };
     }
-    let k3 = eight(key, 16);
+    let k3 = part(key, 16);
     if key.len() == 24 {
         let h = H2_H3;
         return Intermediate {
@@ -61,7 +61,7 @@ fn padding(key: &[u8]) -> Intermediate
             z4: h,
         };
     }
-    let k4 = eight(key, 24);
+    let k4 = part(key, 24);
     Intermediate {
         z1: k1,
         z2: k2,
@@ -71,16 +71,15 @@ fn padding(key: &[u8]) -> Intermediate
 }
 
 // Pre-whitening, with the constant g (section 2.3.2).
-fn pre_whitening(sbox: &[u8], g: [u8; 8], z: Intermediate) -> Intermediate
-    requires { sbox.now ≡ s_table }
+fn pre_whitening(sbox: &Sbox, g: [u8; 8], z: Intermediate) -> Intermediate
     ensures { result ≡ σ0 g z }
 {
     let z1 = z.z1;
     let z2 = z.z2;
     let z3 = z.z3;
     let z4 = z.z4;
-    let y3 = xor8(m5e(z3), g);
-    let y2 = xor8(z1, f_sigma(sbox, xor8(z2, y3)));
+    let y3 = xor(m5e(z3), g);
+    let y2 = xor(z1, f_sigma(sbox, xor(z2, y3)));
     let y4 = m5e(z4);
     Intermediate {
         z1: z2,
@@ -91,8 +90,7 @@ fn pre_whitening(sbox: &[u8], g: [u8; 8], z: Intermediate) -> Intermediate
 }
 
 // σ, with the constant g (section 2.3.3).
-fn sigma(sbox: &[u8], g: [u8; 8], z: Intermediate) -> Intermediate
-    requires { sbox.now ≡ s_table }
+fn sigma(sbox: &Sbox, g: [u8; 8], z: Intermediate) -> Intermediate
     ensures { result ≡ σ g z }
 {
     let z1 = z.z1;
@@ -114,17 +112,16 @@ fn sigma(sbox: &[u8], g: [u8; 8], z: Intermediate) -> Intermediate
 }
 
 // The inverse of σ, with the constant g (section 2.3.3).
-fn sigma_inverse(sbox: &[u8], g: [u8; 8], z: Intermediate) -> Intermediate
-    requires { sbox.now ≡ s_table }
+fn sigma_inverse(sbox: &Sbox, g: [u8; 8], z: Intermediate) -> Intermediate
     ensures { result ≡ σ⁻ g z }
 {
     let z1 = z.z1;
     let z2 = z.z2;
     let z3 = z.z3;
     let z4 = z.z4;
-    let w1 = mb3(xor8(z3, g));
+    let w1 = mb3(xor(z3, g));
     let w2 = mb3(z4);
-    let y1 = xor8(z2, f_sigma(sbox, xor8(z1, z3)));
+    let y1 = xor(z2, f_sigma(sbox, xor(z1, z3)));
     let y3 = p32_inverse_first(w1, w2);
     let y4 = p32_inverse_second(w1, w2);
     Intermediate {
@@ -136,56 +133,53 @@ fn sigma_inverse(sbox: &[u8], g: [u8; 8], z: Intermediate) -> Intermediate
 }
 
 // The round key of a step on the plaintext side (section 2.3.4).
-fn plaintext_side(sbox: &[u8], before: Intermediate, z: Intermediate) -> RoundKey
-    requires { sbox.now ≡ s_table }
+fn plaintext_side(sbox: &Sbox, before: Intermediate, z: Intermediate) -> RoundKey
     ensures { pieces result ≡ plaintext_side before z }
 {
     let b1 = before.z1;
     let b2 = before.z2;
     let z3 = z.z3;
     let z4 = z.z4;
-    let v = f_sigma(sbox, xor8(b2, z3));
-    let k1 = xor8(b1, v);
-    let k2 = xor8(z3, v);
-    let k3 = xor8(z4, v);
-    let k4 = xor8(b2, z4);
+    let v = f_sigma(sbox, xor(b2, z3));
+    let k1 = xor(b1, v);
+    let k2 = xor(z3, v);
+    let k3 = xor(z4, v);
+    let k4 = xor(b2, z4);
     RoundKey { k1, k2, k3, k4 }
 }
 
 // The round key of a step on the ciphertext side (section 2.3.4).
-fn ciphertext_side(sbox: &[u8], g: [u8; 8], before: Intermediate, z: Intermediate) -> RoundKey
-    requires { sbox.now ≡ s_table }
+fn ciphertext_side(sbox: &Sbox, g: [u8; 8], before: Intermediate, z: Intermediate) -> RoundKey
     ensures { pieces result ≡ ciphertext_side g before z }
 {
     let b1 = before.z1;
     let b3 = before.z3;
     let b4 = before.z4;
     let z1 = z.z1;
-    let v = f_sigma(sbox, xor8(b1, b3));
-    let w1 = mb3(xor8(b3, g));
+    let v = f_sigma(sbox, xor(b1, b3));
+    let w1 = mb3(xor(b3, g));
     let w2 = mb3(b4);
-    let k1 = xor8(z1, b3);
-    let k2 = xor8(w1, v);
-    let k3 = xor8(w2, v);
-    let k4 = xor8(b1, w2);
+    let k1 = xor(z1, b3);
+    let k2 = xor(w1, v);
+    let k3 = xor(w2, v);
+    let k4 = xor(b1, w2);
     RoundKey { k1, k2, k3, k4 }
 }
 
 // The last step of the plaintext side.
-fn t_turn(length: usize) -> usize
-    requires { KeyLength length }
-    ensures { result ≡ t_turn length }
+fn t_turn(length: Length) -> usize
+    ensures { result ≡ t_turn length.bytes }
 {
-    if length == 32 {
+    if length.bytes == 32 {
         return 5;
     }
     4
 }
 
 // Step t + 1 on an intermediate key.
-fn next(sbox: &[u8], length: usize, t: usize, z: Intermediate) -> Intermediate
-    requires { (sbox.now ≡ s_table) × KeyLength length × (t < length / 8 + 5) }
-    ensures { result ≡ next length (t + 1) z }
+fn next(sbox: &Sbox, length: Length, t: usize, z: Intermediate) -> Intermediate
+    requires { t < length.bytes / 8 + 5 }
+    ensures { result ≡ next length.bytes (t + 1) z }
 {
     let g = constant(length, t);
     if t < t_turn(length) {
@@ -196,14 +190,14 @@ fn next(sbox: &[u8], length: usize, t: usize, z: Intermediate) -> Intermediate
 
 // Round key t + 1, from the intermediate keys before and after step t + 1.
 fn round_key(
-    sbox: &[u8],
-    length: usize,
+    sbox: &Sbox,
+    length: Length,
     t: usize,
     before: Intermediate,
     z: Intermediate,
 ) -> RoundKey
-    requires { (sbox.now ≡ s_table) × KeyLength length × (t < length / 8 + 5) }
-    ensures { pieces result ≡ key_of length (t + 1) before z }
+    requires { t < length.bytes / 8 + 5 }
+    ensures { pieces result ≡ key_of length.bytes (t + 1) before z }
 {
     if t < t_turn(length) {
         return plaintext_side(sbox, before, z);
@@ -211,35 +205,23 @@ fn round_key(
     ciphertext_side(sbox, constant(length, t), before, z)
 }
 
-// The keys with a piece put at `at`.
-fn put(keys: [u8; 288], at: usize, k: [u8; 8]) -> [u8; 288]
+// A piece put at `at` among the keys.
+fn put(keys: &mut [u8; 288], at: usize, k: [u8; 8])
     requires { at + 8 ≤ 288 }
-    ensures { Placed at 8 k keys result }
+    ensures { Placed at 8 k keys.old keys.new }
 {
-    let mut r = keys;
-    let mut i: usize = 0;
-    while i < 8 {
-        let j = at + i;
-        r[j] = k[i];
-        i += 1;
-    }
-    r
+    keys[at..at + 8].copy_from_slice(&k);
 }
 
-// The keys with a round key put at `at`.
-fn put_key(keys: [u8; 288], at: usize, k: RoundKey) -> [u8; 288]
+// A round key put at `at` among the keys.
+fn put_key(keys: &mut [u8; 288], at: usize, k: RoundKey)
     requires { at + 32 ≤ 288 }
-    ensures { Placed at 32 (pieces k) keys result }
+    ensures { Placed at 32 (pieces k) keys.old keys.new }
 {
-    let k1 = k.k1;
-    let k2 = k.k2;
-    let k3 = k.k3;
-    let k4 = k.k4;
-    put(
-        put(put(put(keys, at, k1), at + 8, k2), at + 16, k3),
-        at + 24,
-        k4,
-    )
+    put(keys, at, k.k1);
+    put(keys, at + 8, k.k2);
+    put(keys, at + 16, k.k3);
+    put(keys, at + 24, k.k4);
 }
 
 // The round keys 1 to T + 1 of a key, 32 bytes each; the rest is zero.
@@ -247,19 +229,14 @@ pub fn round_keys(key: &[u8]) -> [u8; 288]
     requires { KeyLength (length key.now) }
     ensures { result ≡ tab 288 (λ n. get_or (round_keys key.now) n 0) }
 {
-    let sbox = forward::sbox();
-    let length = key.len();
-    let last = length / 8 + 5;
-    let g = G0[5];
-    let mut z = pre_whitening(&sbox, g, padding(key));
+    let sbox = Sbox::new();
+    let length = Length::new(key.len());
+    let mut z = pre_whitening(&sbox, G0[5], padding(key));
     let mut keys = [0u8; 288];
-    let mut t: usize = 0;
-    while t < last {
-        let y = next(&sbox, length, t, z);
-        let k = put_key(keys, t * 32, round_key(&sbox, length, t, z, y));
-        keys = k;
-        z = y;
-        t += 1;
+    for t in 0..key.len() / 8 + 5 {
+        let before = z;
+        z = next(&sbox, length, t, before);
+        put_key(&mut keys, t * 32, round_key(&sbox, length, t, before, z));
     }
     keys
 }

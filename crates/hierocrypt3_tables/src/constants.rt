@@ -25,24 +25,40 @@ const ROW_24: [usize; 8] = [1, 0, 3, 2, 2, 3, 0, 1];
 
 const ROW_32: [usize; 9] = [4, 0, 2, 1, 3, 3, 1, 2, 0];
 
+// The length of a key in bytes: 16, 24 or 32.
+#[derive(Clone, Copy)]
+pub struct Length {
+    pub bytes: usize,
+    ghost legal: { KeyLength bytes },
+}
+
+impl Length {
+    pub fn new(bytes: usize) -> Self
+        requires { KeyLength bytes }
+        ensures { result.bytes ≡ bytes }
+    {
+        Length { bytes }
+    }
+}
+
 // Which G0 is the constant of step t + 1.
-fn row_at(length: usize, t: usize) -> usize
-    requires { KeyLength length × (t < length / 8 + 5) }
-    ensures { (result ≡ get_or (row length) t 0) × (result < 6) }
+fn row_at(length: Length, t: usize) -> usize
+    requires { t < length.bytes / 8 + 5 }
+    ensures { (result ≡ get_or (row length.bytes) t 0) × (result < 6) }
 {
-    if length == 16 {
+    if length.bytes == 16 {
         return ROW_16[t];
     }
-    if length == 24 {
+    if length.bytes == 24 {
         return ROW_24[t];
     }
     ROW_32[t]
 }
 
 // The constant of step t + 1.
-pub fn constant(length: usize, t: usize) -> [u8; 8]
-    requires { KeyLength length × (t < length / 8 + 5) }
-    ensures { result ≡ constant length (t + 1) }
+pub fn constant(length: Length, t: usize) -> [u8; 8]
+    requires { t < length.bytes / 8 + 5 }
+    ensures { result ≡ constant length.bytes (t + 1) }
 {
     G0[row_at(length, t)]
 }

@@ -1,5 +1,5 @@
 // The tables of s and of s followed by mds_L (002, sections 3.6 and 3.7). A const table that is read where it is used is copied at each use, so whoever works
-// many blocks copies the tables once and lends them down.
+// many blocks makes the tables once, and they are borrowed from there on.
 ghost use Rattle.std.specs.Prelude.{◌≡◌};
 ghost use Rattle.hierocrypt3_tables.specs.Operations.{s};
 ghost use Rattle.hierocrypt3_tables.specs.code.Tables.{s_table, t, t_table};
@@ -58,32 +58,65 @@ const T_TABLE: [u32; 256] = [
     0x03cb6eb8, 0xfe1506c8, 0x13952911, 0xdb973a52, 0x4c92a444, 0x923b2cbd, 0x56b0e4d8, 0xb4727e9f,
 ];
 
-// The table of s.
-pub fn sbox() -> [u8; 256]
-    ensures { result ≡ s_table }
-{
-    SBOX
+// s, by its table. Each table has a type of its own: one generic type would take a trait with the entries' type and a marker type for each table, all for a
+// method of one line.
+#[derive(Drop)]
+pub struct Sbox {
+    bytes: [u8; 256],
+    ghost is_s: { bytes ≡ s_table },
 }
 
-// The table of s followed by mds_L.
-pub fn t_table() -> [u32; 256]
-    ensures { result ≡ t_table }
-{
-    T_TABLE
+impl Sbox {
+    pub fn new() -> Self
+        ensures { result.bytes ≡ s_table }
+    {
+        Sbox { bytes: SBOX }
+    }
+
+    // s(x).
+    pub fn s(&self, x: u8) -> u8
+        ensures { result ≡ s x }
+    {
+        self.bytes[x as usize]
+    }
 }
 
-// s(x), read in its table.
-pub fn s_at(sbox: &[u8], x: u8) -> u8
-    requires { sbox.now ≡ s_table }
-    ensures { result ≡ s x }
-{
-    sbox[x as usize]
+// s followed by mds_L, by its table.
+#[derive(Drop)]
+pub struct TTable {
+    words: [u32; 256],
+    ghost is_t: { words ≡ t_table },
 }
 
-// The products of s(x), read in their table.
-pub fn t_at(table: &[u32], x: u8) -> u32
-    requires { table.now ≡ t_table }
-    ensures { result ≡ t x }
-{
-    table[x as usize]
+impl TTable {
+    pub fn new() -> Self
+        ensures { result.words ≡ t_table }
+    {
+        TTable { words: T_TABLE }
+    }
+
+    // The products of s(x).
+    pub fn t(&self, x: u8) -> u32
+        ensures { result ≡ t x }
+    {
+        self.words[x as usize]
+    }
+}
+
+// What a block is enciphered by.
+#[derive(Drop)]
+pub struct Forward {
+    pub sbox: Sbox,
+    pub t_table: TTable,
+}
+
+impl Forward {
+    pub fn new() -> Self
+        ensures { (result.sbox.bytes ≡ s_table) × (result.t_table.words ≡ t_table) }
+    {
+        Forward {
+            sbox: Sbox::new(),
+            t_table: TTable::new(),
+        }
+    }
 }

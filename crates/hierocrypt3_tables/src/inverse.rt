@@ -1,4 +1,4 @@
-// The tables of the inverses of s and mds_L (002, sections 3.6 and 3.7), copied once and lent down as those of `forward` are.
+// The tables of the inverses of s and mds_L (002, sections 3.6 and 3.7), made once and borrowed as those of `forward` are.
 ghost use Rattle.std.specs.Prelude.{◌≡◌};
 ghost use Rattle.hierocrypt3_tables.specs.Operations.{s⁻};
 ghost use Rattle.hierocrypt3_tables.specs.code.Tables.{s_table⁻, u, u_table};
@@ -57,32 +57,64 @@ const U_TABLE: [u32; 256] = [
     0x8eeddce7, 0x0c1be823, 0xe962b40c, 0x6b9480c8, 0x40900c52, 0xc2663896, 0x271f64b9, 0xa5e9507d,
 ];
 
-// The table of the inverse of s.
-pub fn unsbox() -> [u8; 256]
-    ensures { result ≡ s_table⁻ }
-{
-    UNSBOX
+// The inverse of s, by its table.
+#[derive(Drop)]
+pub struct Unsbox {
+    bytes: [u8; 256],
+    ghost is_s_inverse: { bytes ≡ s_table⁻ },
 }
 
-// The table of the inverse of mds_L.
-pub fn u_table() -> [u32; 256]
-    ensures { result ≡ u_table }
-{
-    U_TABLE
+impl Unsbox {
+    pub fn new() -> Self
+        ensures { result.bytes ≡ s_table⁻ }
+    {
+        Unsbox { bytes: UNSBOX }
+    }
+
+    // The inverse of s at x.
+    pub fn s_inverse(&self, x: u8) -> u8
+        ensures { result ≡ s⁻ x }
+    {
+        self.bytes[x as usize]
+    }
 }
 
-// The inverse of s at x, read in its table.
-pub fn s_inverse_at(unsbox: &[u8], x: u8) -> u8
-    requires { unsbox.now ≡ s_table⁻ }
-    ensures { result ≡ s⁻ x }
-{
-    unsbox[x as usize]
+// The inverse of mds_L, by its table.
+#[derive(Drop)]
+pub struct UTable {
+    words: [u32; 256],
+    ghost is_u: { words ≡ u_table },
 }
 
-// The products of x, read in their table.
-pub fn u_at(table: &[u32], x: u8) -> u32
-    requires { table.now ≡ u_table }
-    ensures { result ≡ u x }
-{
-    table[x as usize]
+impl UTable {
+    pub fn new() -> Self
+        ensures { result.words ≡ u_table }
+    {
+        UTable { words: U_TABLE }
+    }
+
+    // The products of x.
+    pub fn u(&self, x: u8) -> u32
+        ensures { result ≡ u x }
+    {
+        self.words[x as usize]
+    }
+}
+
+// What a block is deciphered by.
+#[derive(Drop)]
+pub struct Inverse {
+    pub unsbox: Unsbox,
+    pub u_table: UTable,
+}
+
+impl Inverse {
+    pub fn new() -> Self
+        ensures { (result.unsbox.bytes ≡ s_table⁻) × (result.u_table.words ≡ u_table) }
+    {
+        Inverse {
+            unsbox: Unsbox::new(),
+            u_table: UTable::new(),
+        }
+    }
 }

@@ -1,111 +1,92 @@
 // A file of hex digits: of a key, of two keys in two lines, or of a first block.
-ghost use Rattle.io.specs.Counts.{IsPrefixLen};
+ghost use Rattle.std.specs.Prelude.{◌≤◌, length, IfSome};
 ghost use Rattle.key_files.specs.Spelled.{Spelled};
 
-use crate::{line, spot};
-use hex_digits::Reading;
-use recipe_words::files::{Laid, NOTHING};
+use crate::line::Lines;
+use crate::spot;
+use hex_digits::Misspelled;
 use recipe_words::{files, outcome};
 
-// How many bytes the keys of the two lines have, if the file had them.
-#[derive(Drop)]
-pub struct Two {
-    pub ok: bool,
-    pub first: usize,
-    pub second: usize,
+fn too_long(rt: &HostRuntime, about: &str) {
+    outcome::tell(rt, format_args!("failed long {about}"));
 }
 
-const NEITHER: Two = Two {
-    ok: false,
-    first: 0,
-    second: 0,
-};
-
-fn too_long(rt: &HostRuntime, about: &[u8]) {
-    outcome::say(rt, b"failed long ");
-    outcome::end(rt, about);
-}
-
-// The bytes that a text spells; where it spells none, the outcome says why.
-fn spelled(rt: &HostRuntime, about: &[u8], text: &[u8], bytes: &mut [u8]) -> Laid
+// How many bytes a text spells; where it spells none, the outcome says why.
+fn spelled(rt: &HostRuntime, about: &str, text: &[u8], bytes: &mut [u8]) -> Option<usize>
     ensures { Spelled text.now bytes.old result bytes.new }
 {
-    let r = hex_digits::read(text, bytes);
-    match r {
-        Reading::Bytes(n) => Laid { ok: true, len: n },
-        Reading::BadCharacter(place) => {
-            spot::tell(rt, about, text, place);
-            NOTHING
-        }
-        Reading::OddDigits(n) => {
-            outcome::say(rt, b"failed digits ");
-            outcome::end_number(rt, about, n as u64);
-            NOTHING
-        }
-        Reading::NoRoom(_) => {
-            too_long(rt, about);
-            NOTHING
-        }
+    match hex_digits::read(text, bytes) {
+        Ok(n) => return Some(n),
+        Err(Misspelled::BadCharacter(place)) => spot::tell(rt, about, text, place),
+        Err(Misspelled::OddDigits(n)) => outcome::tell(
+            rt,
+            format_args!("failed digits {about} {n}"),
+        ),
+        Err(Misspelled::NoRoom(_)) => too_long(rt, about),
     }
+    None
 }
 
 // The text of the file that an argument names, over a space of white space; one that leaves no place free may go on,
 // and is too long.
-fn text_of(rt: &HostRuntime, argument: usize, about: &[u8], text: &mut [u8]) -> bool {
-    let filled = files::whole(rt, argument, about, false, text);
-    if filled.len == text.len() {
+fn text_of(rt: &HostRuntime, argument: usize, about: &str, text: &mut [u8]) -> Option<()> {
+    let n = files::whole(rt, argument, about, false, text)?;
+    if n == text.len() {
         too_long(rt, about);
-        return false;
+        return None;
     }
-    filled.ok
+    Some(())
 }
 
-// The bytes of all lines of a text, or of one of two.
-fn bytes_of(rt: &HostRuntime, about: &[u8], text: &mut [u8], line: usize, bytes: &mut [u8]) -> Laid
-    ensures { IsPrefixLen result.len bytes.new }
+// The bytes of all lines of a text, or of one of two, laid at the front of the space.
+fn bytes_of<'a>(
+    rt: &HostRuntime,
+    about: &str,
+    text: &mut [u8],
+    lines: Lines,
+    space: &'a mut [u8],
+) -> Option<&'a [u8]>
+    ensures { IfSome result (λ bytes. length bytes.now ≤ length space.old) }
 {
-    let lines = line::keep(text, line);
-    if (line != line::ALL) & (lines != 2) {
-        outcome::end_number(rt, b"failed lines", lines as u64);
-        return NOTHING;
+    let count = lines.keep(text);
+    if lines != Lines::All && count != 2 {
+        outcome::tell(rt, format_args!("failed lines {count}"));
+        return None;
     }
-    spelled(rt, about, text, bytes)
+    let n = spelled(rt, about, text, space)?;
+    Some(&space[..n])
 }
 
 // The bytes of the file that an argument names, of all of its lines or of one of two.
-pub fn read(rt: &HostRuntime, argument: usize, about: &[u8], line: usize, bytes: &mut [u8]) -> Laid
-    ensures { IsPrefixLen result.len bytes.new }
+pub fn read<'a>(
+    rt: &HostRuntime,
+    argument: usize,
+    about: &str,
+    lines: Lines,
+    space: &'a mut [u8],
+) -> Option<&'a [u8]>
+    ensures { IfSome result (λ bytes. length bytes.now ≤ length space.old) }
 {
     let mut text = [b' '; 4096];
-    if !text_of(rt, argument, about, &mut text) {
-        return NOTHING;
-    }
-    bytes_of(rt, about, &mut text, line, bytes)
+    text_of(rt, argument, about, &mut text)?;
+    bytes_of(rt, about, &mut text, lines, space)
 }
 
 // The bytes of both lines of the file that an argument names.
-pub fn read_two(
+pub fn read_two<'a, 'b>(
     rt: &HostRuntime,
     argument: usize,
-    about: &[u8],
-    first: &mut [u8],
-    second: &mut [u8],
-) -> Two
-    ensures { IsPrefixLen result.first first.new × IsPrefixLen result.second second.new }
+    about: &str,
+    first: &'a mut [u8],
+    second: &'b mut [u8],
+) -> Option<(&'a [u8], &'b [u8])>
+    ensures first { IfSome result (λ keys. length keys.0.now ≤ length first.old) }
+    ensures second { IfSome result (λ keys. length keys.1.now ≤ length second.old) }
 {
     let mut text = [b' '; 4096];
-    if !text_of(rt, argument, about, &mut text) {
-        return NEITHER;
-    }
+    text_of(rt, argument, about, &mut text)?;
     let mut again = text;
-    let one = bytes_of(rt, about, &mut text, 1, first);
-    if !one.ok {
-        return NEITHER;
-    }
-    let two = bytes_of(rt, about, &mut again, 2, second);
-    Two {
-        ok: two.ok,
-        first: one.len,
-        second: two.len,
-    }
+    let one = bytes_of(rt, about, &mut text, Lines::First, first)?;
+    let two = bytes_of(rt, about, &mut again, Lines::Second, second)?;
+    Some((one, two))
 }

@@ -1,84 +1,41 @@
 // The keys of the key file that every command names: one, which all of it is, or two, the chain's and the seal's.
-ghost use Rattle.io.specs.Counts.{IsPrefixLen};
+ghost use Rattle.std.specs.Prelude.{◌≤◌, length, IfSome};
 
-use crate::schedule::Made;
-use crate::{hex_file, line, schedule};
+use crate::line::Lines;
+use crate::{hex_file, schedule};
 use cipher::Schedule;
 use recipe_words::{arguments, outcome};
 
-// The schedules of two keys, if neither was refused and they differ, and how many bytes the second key has.
+// The schedules of two keys, and the second key.
 #[derive(Drop)]
-pub struct Pair {
-    pub ok: bool,
+pub struct Pair<'a> {
     pub first: Schedule,
     pub second: Schedule,
-    pub len: usize,
+    pub key: &'a [u8],
 }
 
 // The schedule of the one key.
-pub fn one(rt: &HostRuntime) -> Made {
-    let mut key = [0u8; 2048];
-    let k = hex_file::read(rt, arguments::KEY_FILE, b"keys", line::ALL, &mut key);
-    if !k.ok {
-        let schedule = cipher::no_schedule();
-        return Made {
-            ok: false,
-            schedule,
-        };
-    }
-    let n = k.len;
-    schedule::of(
-        rt,
-        arguments::cipher(rt, arguments::CIPHER),
-        &key[..n],
-        b"key",
-    )
+pub fn one(rt: &HostRuntime) -> Option<Schedule> {
+    let mut space = [0u8; 2048];
+    let key = hex_file::read(rt, arguments::KEY_FILE, "keys", Lines::All, &mut space)?;
+    schedule::of(rt, key, "key")
 }
 
-// The schedules of two keys; where one is refused, or they are the same, the outcome says so.
-fn set_up(rt: &HostRuntime, first: &[u8], second: &[u8]) -> Pair {
-    let cipher = arguments::cipher(rt, arguments::CIPHER);
-    let one = schedule::of(rt, cipher, first, b"key1");
-    let a = one.schedule;
-    let mut pair = Pair {
-        ok: false,
-        first: a,
-        second: a,
-        len: 0,
-    };
-    if one.ok {
-        let two = schedule::of(rt, cipher, second, b"key2");
-        let b = two.schedule;
-        pair.second = b;
-        pair.ok = two.ok;
-    }
-    if pair.ok {
-        if first == second {
-            outcome::end(rt, b"failed same");
-            pair.ok = false;
-        }
-    }
-    pair
-}
-
-// The two keys. The second is laid at the front of the space.
-pub fn two(rt: &HostRuntime, second: &mut [u8]) -> Pair
-    ensures { IsPrefixLen result.len second.new }
+// The two keys, which differ. The second is laid in the space.
+pub fn two<'a>(rt: &HostRuntime, space: &'a mut [u8]) -> Option<Pair<'a>>
+    ensures { IfSome result (λ pair. length pair.key.now ≤ length space.old) }
 {
-    let mut first = [0u8; 2048];
-    let read = hex_file::read_two(rt, arguments::KEY_FILE, b"keys", &mut first, second);
-    if !read.ok {
-        let none = cipher::no_schedule();
-        return Pair {
-            ok: false,
-            first: none,
-            second: none,
-            len: 0,
-        };
+    let mut other = [0u8; 2048];
+    let (one, two) = hex_file::read_two(rt, arguments::KEY_FILE, "keys", &mut other, space)?;
+    let first = schedule::of(rt, one, "key1")?;
+    let second = schedule::of(rt, two, "key2")?;
+    if one == two {
+        outcome::tell(rt, "failed same");
+        return None;
     }
-    let n = read.first;
-    let m = read.second;
-    let mut pair = set_up(rt, &first[..n], &second[..m]);
-    pair.len = m;
-    pair
+    Some(Pair {
+        first,
+        second,
+        key: two,
+    })
 }

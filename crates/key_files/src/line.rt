@@ -1,34 +1,43 @@
-// A line of a text, of the lines that have something in them: anything but spaces, tabs and carriage returns.
-
-// The number that stands for all lines.
-pub const ALL: usize = 0;
+// The lines of a text that have something in them: anything but spaces, tabs and carriage returns.
 
 fn is_blank(c: u8) -> bool {
-    match c {
-        b' ' | b'\t' | b'\r' | b'\n' => true,
-        _ => false,
-    }
+    matches!(c, b' ' | b'\t' | b'\r' | b'\n')
 }
 
-fn shown(c: u8, is_kept: bool) -> u8 {
-    if is_kept | (c == b'\n') { c } else { b' ' }
+// Which of them are taken: all, or one of two.
+#[derive(Clone, Copy, Debug, PartialEq, Eq)]
+pub enum Lines {
+    All,
+    First,
+    Second,
 }
 
-// Spaces over every line but the one of that number, so that its characters keep their places. How many lines have
-// something in them.
-pub fn keep(text: &mut [u8], line: usize) -> usize {
-    let mut lines: usize = 0;
-    let mut begun = false;
-    let mut i: usize = 0;
-    while i < text.len() {
-        let c = text[i];
-        if !begun & !is_blank(c) {
-            begun = true;
-            lines += 1;
+impl Lines {
+    // Is the line of that number, counted from 1, taken?
+    fn has(self, number: usize) -> bool {
+        match self {
+            Self::All => true,
+            Self::First => number == 1,
+            Self::Second => number == 2,
         }
-        text[i] = shown(c, (line == ALL) | (line == lines));
-        begun = begun & (c != b'\n');
-        i += 1;
     }
-    lines
+
+    // Spaces over every line but those taken, so that their characters keep their places. How many lines have something
+    // in them.
+    pub fn keep(self, text: &mut [u8]) -> usize {
+        let mut lines = 0;
+        let mut begun = false;
+        for c in text {
+            if !begun && !is_blank(*c) {
+                begun = true;
+                lines += 1;
+            }
+            if *c == b'\n' {
+                begun = false;
+            } else if !self.has(lines) {
+                *c = b' ';
+            }
+        }
+        lines
+    }
 }

@@ -1,28 +1,19 @@
 // The schedule of a key.
 use cipher::Schedule;
+use recipe_words::arguments::Cipher;
 use recipe_words::outcome;
+use refusals::Refusal;
 
-// The schedule, if the key was not refused.
-#[derive(Drop)]
-pub struct Made {
-    pub ok: bool,
-    pub schedule: Schedule,
-}
-
-// The schedule of a key for the cipher of a number; where there is none, the outcome says why.
-pub fn of(rt: &HostRuntime, cipher: u64, key: &[u8], about: &[u8]) -> Made {
-    let made = cipher::set_up(cipher, key);
-    let schedule = made.schedule;
-    if made.answer == refusals::DONE {
-        return Made { ok: true, schedule };
+// The schedule of a key for the cipher that the command names; where there is none, the outcome says why.
+pub fn of(rt: &HostRuntime, key: &[u8], about: &str) -> Option<Schedule> {
+    let Some(cipher) = Cipher::given(rt) else {
+        outcome::refused(rt, Refusal::UnknownCipher, "cipher", 0);
+        return None;
+    };
+    let made = cipher::set_up(cipher as u64, key);
+    if let Err(refusal) = made.answer {
+        outcome::refused(rt, refusal, about, key.len() as u64);
+        return None;
     }
-    if made.answer == refusals::UNKNOWN_CIPHER {
-        outcome::refused(rt, made.answer, b"cipher", 0);
-    } else {
-        outcome::refused(rt, made.answer, about, key.len() as u64);
-    }
-    Made {
-        ok: false,
-        schedule,
-    }
+    Some(made.schedule)
 }

@@ -1,2 +1,2 @@
 pub mod Padded
-pub mod Lent
+pub mod Constants

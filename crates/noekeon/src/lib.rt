@@ -1,13 +1,13 @@
-// Noekeon, direct key (003; 02, request 2): one block both ways under one of its two rules, on four words of 32 bits by value, and the round keys.
+// Noekeon, direct key (003; 02, request 2): one block both ways in one of its two versions, on four words of 32 bits by value, and the round keys.
 #![tactic(auto)]
 
-ghost use Rattle.std.specs.Prelude.{◌≡◌, ◌≤◌, ◌<◌, length, get_or};
+ghost use Rattle.std.specs.Prelude.{◌≡◌, ◌≤◌, length, get_or};
 ghost use Rattle.laws.specs.Places.{tab};
-ghost use Rattle.noekeon_steps.specs.Rule.{Rule, rule};
+ghost use Rattle.noekeon_steps.specs.Rule.{rule_of};
 ghost use Rattle.noekeon_steps.specs.Steps.{first_xored, θ, zero_key};
 ghost use Rattle.noekeon.specs.Noekeon.{mixed, cipher, cipher⁻, load, store, encipher, decipher};
 
-use noekeon_steps::{Quad, gamma, pi1, pi2, theta, theta_then_constant};
+use noekeon_steps::{Quad, Version};
 use words::word::{put, word_at};
 
 // What the first word is xored with, of the published rule.
@@ -16,63 +16,82 @@ const CONSTANTS: [u32; 17] = [
     0xd4,
 ];
 
-// A rule's constants, to be lent. The earlier one has zeros.
-pub fn constants(published: bool) -> [u32; 17]
-    ensures { result ≡ (rule published).constants }
-{
-    if published {
-        return CONSTANTS;
+// A Noekeon at work: which one, and the constants of its rule.
+#[derive(Drop)]
+pub struct Noekeon {
+    pub version: Version,
+    constants: [u32; 17],
+    ghost are_its_own: { constants ≡ (rule_of version).constants },
+}
+
+impl Noekeon {
+    // The earlier rule has zeros.
+    pub fn new(version: Version) -> Self
+        ensures { (result.version ≡ version) × (result.constants ≡ (rule_of version).constants) }
+    {
+        let constants = match version {
+            Version::Published => CONSTANTS,
+            Version::Earlier => [0u32; 17],
+        };
+        Noekeon { version, constants }
     }
-    [0u32; 17]
+
+    // One block enciphered.
+    pub fn encipher(&self, keys: &[u8; 288], block: [u8; 16]) -> [u8; 16]
+        ensures { result ≡ encipher (rule_of self.now.version) keys.now block }
+    {
+        let p = load(&block);
+        let q = self.forth(load(keys), p);
+        store(q)
+    }
+
+    // One block deciphered.
+    pub fn decipher(&self, keys: &[u8; 288], block: [u8; 16]) -> [u8; 16]
+        ensures { result ≡ decipher (rule_of self.now.version) keys.now block }
+    {
+        let p = load(&block);
+        let q = self.back(load(keys), p);
+        store(q)
+    }
+
+    // The sixteen rounds and the last θ.
+    fn forth(&self, k: Quad, p: Quad) -> Quad
+        ensures { result ≡ cipher (rule_of self.now.version) k p }
+    {
+        let version = self.version;
+        let mut q = p;
+        for i in 0..16 {
+            q = mix(constant_then_theta(version, self.constants[i], k, q));
+        }
+        constant_then_theta(version, self.constants[16], k, q)
+    }
+
+    // The same under θ(0, K), with the constants backwards. The next one is read a round ahead, so that nothing waits for it.
+    fn back(&self, k: Quad, p: Quad) -> Quad
+        ensures { result ≡ cipher⁻ (rule_of self.now.version) (θ (rule_of self.now.version) zero_key k) p }
+    {
+        let version = self.version;
+        let mut q = p;
+        let mut c = self.constants[16];
+        for j in 0..16 {
+            q = mix(version.theta_then_constant(k, q, c));
+            c = self.constants[15 - j];
+        }
+        version.theta_then_constant(k, q, c)
+    }
 }
 
 // What follows θ in a round.
 fn mix(p: Quad) -> Quad
     ensures { result ≡ mixed p }
 {
-    pi2(gamma(pi1(p)))
+    p.pi1().gamma().pi2()
 }
 
-fn constant_then_theta(published: bool, c: u32, k: Quad, p: Quad) -> Quad
-    ensures { result ≡ θ (rule published) k (first_xored c p) }
+fn constant_then_theta(version: Version, c: u32, k: Quad, p: Quad) -> Quad
+    ensures { result ≡ θ (rule_of version) k (first_xored c p) }
 {
-    let q = Quad {
-        p0: p.p0 ^ c,
-        p1: p.p1,
-        p2: p.p2,
-        p3: p.p3,
-    };
-    theta(published, k, q)
-}
-
-// The sixteen rounds and the last θ.
-fn forth(published: bool, constants: &[u32], k: Quad, p: Quad) -> Quad
-    requires { constants.now ≡ (rule published).constants }
-    ensures { result ≡ cipher (rule published) k p }
-{
-    let mut q = p;
-    let mut i: usize = 0;
-    while i < 16 {
-        q = mix(constant_then_theta(published, constants[i], k, q));
-        i += 1;
-    }
-    constant_then_theta(published, constants[16], k, q)
-}
-
-// The same under θ(0, K), with the constants backwards. The next one is read a round ahead, so that nothing waits for it.
-fn back(published: bool, constants: &[u32], k: Quad, p: Quad) -> Quad
-    requires { constants.now ≡ (rule published).constants }
-    ensures { result ≡ cipher⁻ (rule published) (θ (rule published) zero_key k) p }
-{
-    let mut q = p;
-    let mut c = constants[16];
-    let mut j: usize = 0;
-    while j < 16 {
-        q = mix(theta_then_constant(published, k, q, c));
-        j += 1;
-        c = constants[16 - j];
-    }
-    theta_then_constant(published, k, q, c)
+    version.theta(k, Quad { p0: p.p0 ^ c, ..p })
 }
 
 // Four words, of a block or of K at the front of the round keys.
@@ -99,57 +118,12 @@ fn store(p: Quad) -> [u8; 16]
     r
 }
 
-// One block, with the rule's constants lent.
-pub fn encipher_with(
-    published: bool,
-    constants: &[u32],
-    keys: &[u8; 288],
-    block: [u8; 16],
-) -> [u8; 16]
-    requires { constants.now ≡ (rule published).constants }
-    ensures { result ≡ encipher (rule published) keys.now block }
-{
-    let p = load(&block);
-    let k = load(keys);
-    let q = forth(published, constants, k, p);
-    store(q)
-}
-
-pub fn decipher_with(
-    published: bool,
-    constants: &[u32],
-    keys: &[u8; 288],
-    block: [u8; 16],
-) -> [u8; 16]
-    requires { constants.now ≡ (rule published).constants }
-    ensures { result ≡ decipher (rule published) keys.now block }
-{
-    let p = load(&block);
-    let k = load(keys);
-    let q = back(published, constants, k, p);
-    store(q)
-}
-
-// How many bytes of the key have room in the round keys.
-fn taken(key: &[u8]) -> usize
-    ensures { (result ≤ 288) × (result ≤ length key.now) × (result < 288 → result ≡ length key.now) }
-{
-    if key.len() < 288 {
-        return key.len();
-    }
-    288
-}
-
 // K at the front, and zeros.
 pub fn round_keys(key: &[u8]) -> [u8; 288]
     ensures { result ≡ tab 288 (λ n. get_or key.now n 0) }
 {
     let mut r = [0u8; 288];
-    let n = taken(key);
-    let mut i: usize = 0;
-    while i < n {
-        r[i] = key[i];
-        i += 1;
-    }
+    let n = key.len().min(288);
+    r[..n].copy_from_slice(&key[..n]);
     r
 }

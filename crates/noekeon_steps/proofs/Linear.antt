@@ -14,7 +14,9 @@ use Rattle.laws.proofs.Turn.{turn_lt, turn_xor}
 use Rattle.laws.proofs.Sums.{Sum, value, balanced, solve_words}
 use Rattle.laws.proofs.Sums.Sum.{at, zer, op, ◌⊕◌}
 use Rattle.noekeon_steps.specs.declared.Quad.{Quad}
-use Rattle.noekeon_steps.specs.Rule.{Rule, published, earlier, rule}
+use Rattle.noekeon_steps.specs.declared.Version.{Version}
+use Rattle.noekeon_steps.specs.declared.Version.TheVariants.{Published, Earlier}
+use Rattle.noekeon_steps.specs.Rule.{Rule, published, earlier, rule, rule_of}
 use Rattle.noekeon_steps.specs.Steps.{S, θ, zero_key}
 
 -- ---- four words of 32 bits
@@ -154,3 +156,7 @@ shifts = record {
 pub sound : (b : Bool) → Sound (rule b)
 sound true = rotations
 sound false = shifts
+
+pub sound_of : (v : Version) → Sound (rule_of v)
+sound_of Published = rotations
+sound_of Earlier = shifts

@@ -1,6 +1,8 @@
 -- What the two Noekeons differ in. Number 3 is as its designers published it (02, request 2), number 4 as 003 has it, where 01 ('Noekeon') repairs nothing.
 use Rattle.std.specs.Prelude.{Bool, true, false, List, [], ◌∷◌, ℕ, ◌*◌, ◌/◌, ◌%◌, ◌^◌, replicate}
 use Rattle.laws.specs.Turn.{rol, ror}
+use Rattle.noekeon_steps.specs.declared.Version.{Version}
+use Rattle.noekeon_steps.specs.declared.Version.TheVariants.{Published, Earlier}
 
 pub record Rule : Type 0 where
   -- the two shifts by 8 in S
@@ -26,3 +28,8 @@ earlier = record { right8 = λ t. t / 2 ^ 8; left8 = λ t. t * 2 ^ 8 % 2 ^ 32; c
 abbrev pub rule : Bool → Rule
 rule true = published
 rule false = earlier
+
+-- by the code's name of it
+abbrev pub rule_of : Version → Rule
+rule_of Published = published
+rule_of Earlier = earlier

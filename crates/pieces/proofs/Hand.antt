@@ -1,93 +1,51 @@
--- The bytes at hand: the first k of the held bytes h with a piece p behind them. What `byte_at`, `first_block`, `behind` and `left_over` read of them.
-use mathlib.Core.Bool.{true}
-use mathlib.Core.Path.{◌≡◌, sym, ap, ◌∙◌}
-use mathlib.Core.List.{List, ◌++◌, append-nil}
-use Prim.Native.Nat.{ℕ, ◌+◌, ◌-◌, ◌*◌, ◌≤◌, ◌<◌}
+-- The bytes at hand: the first k of the held bytes h with a piece p after them. What `first_block` and `left_over` read of them.
+use mathlib.Core.Bool.{Bool, true, false}
+use mathlib.Core.Path.{◌≡◌, refl, sym, ap, ap₂, ◌∙◌}
+use mathlib.Core.List.{List, ◌++◌, append-nil, append_assoc}
+use Rattle.std.proofs.lemmas.List.{drop-replicate}
+use Prim.Native.Nat.{ℕ, ◌+◌, ◌-◌, ◌*◌, ◌≤◌, ◌<◌, min}
+use borrow.Rule.Slice.PartMut.{put_mid}
+use borrow.Author.Tests.{leb-true, leb-false}
+use lib.Dec.{leb}
 use native.Mathlib.Nat.{le_refl}
 use native.Mathlib.Omega.{arith}
-use lib.ListN.{length, get_or, set, take, drop, replicate, take-append-drop, length-append, length-drop, length-replicate, get_or-append}
-use lib.Seq.{length-take-le, get_or-take, get_or-append-add, drop-append-add, get_or-drop, take_at, take_all}
+use lib.ListN.{length, take, drop, replicate, take-append-drop, length-append, length-drop, length-replicate, drop_of_length-le}
+use lib.Seq.{length-take-le, take-take, take-append-le, take-append-add, drop-append-add, take_at, take_all}
 use Rattle.runs.specs.Zeros.{zeros}
-use Rattle.runs.proofs.Fill.{zeros_are, fill_next}
+use Rattle.runs.proofs.Fill.{zeros_are}
 use Rattle.pieces.specs.Pieces.{held_in}
 
 module _ (h p : List ℕ) (k : ℕ) (fits : k ≤ length h) where
   pub hand_length : length (take k h ++ p) ≡ k + length p
   hand_length = length-append (take k h) p ∙ ap (λ (n : ℕ). n + length p) (length-take-le k h fits)
 
-  pub hand_low : (j : ℕ) → j < k → get_or h j 0 ≡ get_or (take k h ++ p) j 0
-  hand_low j l =
-      let e : length (take k h) ≡ k = length-take-le k h fits in
-      let m : j < length (take k h) = omega arith in
-      rw (get_or-append, get_or-take)
+-- ---- the parts that are copied: a list whose part from a on is b, of n places
+pub middle_at_the_end : (a : ℕ) (n : ℕ) (x b : List ℕ) → a + n ≡ length x → put_mid a n x b ≡ take a x ++ b
+middle_at_the_end a n x b h =
+    let d = length-drop a x in
+    ap (λ (l : List ℕ). take a x ++ (b ++ l)) (drop_of_length-le (drop a x) (omega arith)) ∙ ap (λ (l : List ℕ). take a x ++ l) (append-nil b)
 
-  pub hand_high : (j : ℕ) → k ≤ j → get_or p (j - k) 0 ≡ get_or (take k h ++ p) j 0
-  hand_high j l =
-      let e : length (take k h) ≡ k = length-take-le k h fits in
-      let m : j ≡ length (take k h) + (j - k) = omega arith in
-      sym (ap (λ (n : ℕ). get_or (take k h ++ p) n 0) m ∙ get_or-append-add (take k h) p (j - k) 0)
-
--- ---- a turn of `first_block`, and its end
-module _ (h p : List ℕ) (k : ℕ) (fits : k ≤ length h) (whole : 16 ≤ k + length p) where
-  pub first_next : (i v : ℕ) → i < 16 → v ≡ get_or (take k h ++ p) i 0
-      → set (take i (take k h ++ p) ++ replicate (16 - i) 0) i v ≡ take (i + 1) (take k h ++ p) ++ replicate (16 - (i + 1)) 0
-  first_next i v l e = let n = hand_length h p k fits in fill_next 16 (take k h ++ p) i v l (omega arith) e
-
-  pub first_end : (i : ℕ) → i ≡ 16 → take i (take k h ++ p) ++ replicate (16 - i) 0 ≡ take 16 (take k h ++ p)
-  first_end i e = rw e (append-nil (take 16 (take k h ++ p)))
-
--- ---- the places of x: its first i bytes, and behind them a piece p from a place on
-module _ (x p : List ℕ) (i from : ℕ) (within : from ≤ length p) (fits : i + (length p - from) ≤ length x) where
-  abbrev both : List ℕ
-  both = take i x ++ drop from p
-
-  front_length : length (take i x) ≡ i
-  front_length = length-take-le i x (omega arith)
-
-  both-length : length both ≡ i + (length p - from)
-  both-length =
-      let e = front_length in
-      let d = length-drop from p in
-      let l = length-append (take i x) (drop from p) in
-      omega arith
-
-  pub behind_start : zeros (drop i x) ≡ true → x ≡ take i both ++ replicate (length x - i) 0
-  behind_start z =
-      sym (take-append-drop i x)
-      ∙ ap (λ (l : List ℕ). l ++ drop i x) (sym (take_at (take i x) (drop from p) i front_length))
-      ∙ ap (λ (l : List ℕ). take i both ++ l) (zeros_are (drop i x) z)
-      ∙ ap (λ (n : ℕ). take i both ++ replicate n 0) (length-drop i x)
-
-  pub behind_next : (j v : ℕ) → from ≤ j → j < length p → v ≡ get_or p j 0
-      → set (take (i + (j - from)) both ++ replicate (length x - (i + (j - from))) 0) (i + (j - from)) v
-      ≡ take (i + (j + 1 - from)) both ++ replicate (length x - (i + (j + 1 - from))) 0
-  behind_next j v h l e =
-      let n = both-length in
-      let f = front_length in
-      let there : from + (j - from) ≡ j = omega arith in
-      let place : i + (j - from) ≡ length (take i x) + (j - from) = omega arith in
-      let next : i + (j - from) + 1 ≡ i + (j + 1 - from) = omega arith in
-      let value : get_or both (i + (j - from)) 0 ≡ get_or p j 0 =
-      ap (λ (k : ℕ). get_or both k 0) place
-      ∙ get_or-append-add (take i x) (drop from p) (j - from) 0
-      ∙ get_or-drop from p (j - from) 0
-      ∙ ap (λ (k : ℕ). get_or p k 0) there in
-      fill_next (length x) both (i + (j - from)) v (omega arith) (omega arith) (e ∙ sym value)
-      ∙ ap (λ (k : ℕ). take k both ++ replicate (length x - k) 0) next
-
-  -- as many places as before
-  pub behind_length : (j : ℕ) → j ≤ length p → length (take (i + (j - from)) both ++ replicate (length x - (i + (j - from))) 0) ≡ length x
-  behind_length j h =
-      let n = both-length in
-      let t = length-take-le (i + (j - from)) both (omega arith) in
-      let z = length-replicate {A = ℕ} (length x - (i + (j - from))) 0 in
-      length-append (take (i + (j - from)) both) (replicate (length x - (i + (j - from))) 0) ∙ omega arith
-
-  pub behind_end : (j : ℕ) → j ≡ length p → take (i + (j - from)) both ++ replicate (length x - (i + (j - from))) 0 ≡ held_in (length x) both
-  behind_end j e =
-      let n : i + (j - from) ≡ length both = ap (λ (k : ℕ). i + (k - from)) e ∙ sym both-length in
-      ap (λ (k : ℕ). take k both ++ replicate (length x - k) 0) n
-      ∙ ap (λ (l : List ℕ). l ++ replicate (length x - length both) 0) (take_all (length both) both (le_refl (length both)))
+-- the first m of h, and what is missing to 16 of p
+pub first_parts : (h p : List ℕ) (k m : ℕ) → k ≤ length h → m ≡ min k 16 → take m h ++ take (16 - m) p ≡ take 16 (take k h ++ p)
+first_parts h p k m fits e = by_test (leb k 16) refl
+  where
+    by_test : (t : Bool) → leb k 16 ≡ t → take m h ++ take (16 - m) p ≡ take 16 (take k h ++ p)
+    by_test true t =
+        let u = leb-true k 16 t in
+        let same : m ≡ k = omega arith in
+        let l = length-take-le k h fits in
+        let whole : length (take k h) + (16 - k) ≡ 16 = omega arith in
+        ap (λ (n : ℕ). take n h ++ take (16 - n) p) same
+        ∙ sym (take-append-add (take k h) p (16 - k))
+        ∙ ap (λ (n : ℕ). take n (take k h ++ p)) whole
+    by_test false t =
+        let u = leb-false k 16 t in
+        let same : m ≡ 16 = omega arith in
+        let l = length-take-le k h fits in
+        ap (λ (n : ℕ). take n h ++ take (16 - n) p) same
+        ∙ append-nil (take 16 h)
+        ∙ sym (take-take 16 k h (omega arith))
+        ∙ sym (take-append-le 16 (take k h) p (omega arith))
 
 -- ---- what stands behind n whole blocks of the bytes at hand
 module _ (h p : List ℕ) (k n : ℕ) where
@@ -114,3 +72,28 @@ module _ (h p : List ℕ) (k : ℕ) (fits : k ≤ length h) where
   hand_parts le =
       let d = length-drop (16 - k) p in
       ap (λ (l : List ℕ). take 16 (take k h ++ p) ++ l) (take_all (length p - (16 - k)) (drop (16 - k) p) (omega arith)) ∙ hand_split le
+
+-- ---- places that are filled up with zeros
+pub held_rest : (x l : List ℕ) (k n : ℕ) → zeros (drop k x) ≡ true → k + n ≡ length l → drop n (drop k x) ≡ replicate (length x - length l) 0
+held_rest x l k n z e =
+    let d = length-drop k x in
+    let left : length (drop k x) - n ≡ length x - length l = omega arith in
+    ap (drop n) (zeros_are (drop k x) z)
+    ∙ drop-replicate n (length (drop k x)) 0
+    ∙ ap (λ (m : ℕ). replicate m 0) left
+
+-- bytes put after the first k of x, behind which x is zeros
+pub put_after : (x b : List ℕ) (k n : ℕ) → k ≤ length x → zeros (drop k x) ≡ true → n ≡ length b
+    → put_mid k n x b ≡ held_in (length x) (take k x ++ b)
+put_after x b k n fits z e =
+    let t = length-take-le k x fits in
+    let a = length-append (take k x) b in
+    ap (λ (l : List ℕ). take k x ++ (b ++ l)) (held_rest x (take k x ++ b) k n z (omega arith))
+    ∙ sym (append_assoc (take k x) b (replicate (length x - length (take k x ++ b)) 0))
+
+-- bytes put at the front of zeros
+pub put_before : (x b z : List ℕ) (n m : ℕ) → z ≡ replicate m 0 → m ≡ length x → n ≡ length b → b ++ drop n z ≡ held_in (length x) b
+put_before x b z n m e f g =
+    let left : m - n ≡ length x - length b = omega arith in
+    ap (λ (l : List ℕ). b ++ drop n l) e
+    ∙ ap (λ (l : List ℕ). b ++ l) (drop-replicate n m 0 ∙ ap (λ (k : ℕ). replicate k 0) left)

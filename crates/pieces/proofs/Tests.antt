@@ -15,13 +15,6 @@ same_test a b c d f g = at (ltb a b) refl
     at true e = sym (lt-ltb c d (f (ltb-true a b e)))
     at false e = sym (le-ltb c d (g (ltb-false a b e)))
 
--- ---- the limit
-pub over_already : (count n : ℕ) → limit < count → true ≡ ltb limit (count + n)
-over_already count n h = sym (lt-ltb limit (count + n) (omega arith))
-
-pub over_then : (count n : ℕ) → count ≤ limit → ltb (limit - count) n ≡ ltb limit (count + n)
-over_then count n h = same_test (limit - count) n limit (count + n) (λ l. omega arith) (λ l. omega arith)
-
 -- ---- the room, counted in blocks
 pub short_in_blocks : (count n room : ℕ) → ltb (room / 16) (n / 16 + (count % 16 + n % 16) / 16) ≡ ltb room (16 * completed count n)
 short_in_blocks count n room =

@@ -14,10 +14,7 @@ pub const LIMIT: u64 = 1048576;
 pub fn over_limit(count: u64, n: usize) -> bool
     ensures { result ≡ ltb limit (count + n) }
 {
-    if LIMIT < count {
-        return true;
-    }
-    LIMIT - count < n as u64
+    LIMIT < count.saturating_add(n as u64)
 }
 
 // Is there less room than the blocks take that n more bytes complete?

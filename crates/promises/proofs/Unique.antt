@@ -4,25 +4,22 @@ use mathlib.Core.Bool.{Bool}
 use mathlib.Core.List.{List}
 use Prim.Native.Nat.{ℕ}
 use denote.Ref.{Bor}
+use Rattle.std.specs.Prelude as std
 use Rattle.hex_digits.specs.Read.{Read}
-use Rattle.hex_digits.specs.declared.Reading.{Reading}
+use Rattle.hex_digits.specs.declared.Misspelled.{Misspelled}
 use Rattle.card.specs.Promises.{Judges, Finds, Puts}
 use Rattle.card_compare.specs.Promises.{Compares}
 use Rattle.cipher.specs.Promises.{SetsUp, WorksBlock}
 use Rattle.cipher.specs.declared.Schedule.{Schedule}
-use Rattle.cipher.specs.declared.SetUp.{SetUp}
+use Rattle.cipher.specs.Numbered.{SetUp}
 use Rattle.stream.specs.Promises.{Starts, Feeds, Finishes}
 use Rattle.stream_record.specs.Promises.{LaysDown, TakesUp}
 use Rattle.stream.specs.declared.Stream.{Stream}
-use Rattle.stream.specs.declared.Started.{Started}
-use Rattle.stream.specs.declared.Fed.{Fed}
-use Rattle.stream.specs.declared.Finished.{Finished}
+use Rattle.stream.specs.Numbered.{Started, Fed, Finished}
 use Rattle.seal.specs.Promises.{StartsSeal, FeedsSeal, WritesSeal, ChecksSeal}
 use Rattle.seal.specs.declared.Seal.{Seal}
-use Rattle.seal.specs.declared.Started as seal-started
-use Rattle.seal.specs.declared.Fed as seal-fed
-use Rattle.seal.specs.declared.Written.{Written}
-use Rattle.seal.specs.declared.Checked.{Checked}
+use Rattle.seal.specs.Numbered as seals
+use Rattle.seal.specs.Numbered.{Written, Checked}
 use Rattle.entry.specs.Entry.{WorksForC, TellsVersion}
 use Rattle.speed.specs.Works.{Result, WorksBlocks, WorksMessage, WorksBytes}
 use Rattle.card_speed.specs.Works.{MeasuresGood, MeasuresFind, MeasuresCompare}
@@ -59,14 +56,14 @@ one_entry c d key x o r r' q q' h h' = (h.answered ∙ sym h'.answered, h.left �
 pub one_version : (r r' : ℕ) → TellsVersion r → TellsVersion r' → r ≡ r'
 one_version r r' h h' = h.returned ∙ sym h'.returned
 
-pub one_reading : (text o : List ℕ) (r r' : Reading) (q q' : List ℕ) → Read text o r q → Read text o r' q' → (r ≡ r') × (q ≡ q')
+pub one_reading : (text o : List ℕ) (r r' : std.Result ℕ Misspelled) (q q' : List ℕ) → Read text o r q → Read text o r' q' → (r ≡ r') × (q ≡ q')
 one_reading text o r r' q q' h h' = (h.answers ∙ sym h'.answers, h.writes ∙ sym h'.writes)
 
 -- ---- seals
-pub one_seal_start : (s : Schedule) (r r' : seal-started.Started) → StartsSeal s r → StartsSeal s r' → r ≡ r'
+pub one_seal_start : (s : Schedule) (r r' : seals.Started) → StartsSeal s r → StartsSeal s r' → r ≡ r'
 one_seal_start s r r' h h' = h.returned ∙ sym h'.returned
 
-pub one_seal_piece : (s : Seal) (p : List ℕ) (r r' : seal-fed.Fed) → FeedsSeal s p r → FeedsSeal s p r' → r ≡ r'
+pub one_seal_piece : (s : Seal) (p : List ℕ) (r r' : seals.Fed) → FeedsSeal s p r → FeedsSeal s p r' → r ≡ r'
 one_seal_piece s p r r' h h' = h.returned ∙ sym h'.returned
 
 pub one_seal_written : (s : Seal) (o : List ℕ) (r r' : Written) (q q' : List ℕ) → WritesSeal s o r q → WritesSeal s o r' q' → (r ≡ r') × (q ≡ q')

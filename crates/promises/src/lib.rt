@@ -1,6 +1,10 @@
 // For each public call a thin caller that gets exactly its promise, so that a contract which promises less is refused here. docs/PROMISES.md is the index.
 #![tactic(auto)]
 
+ghost use Rattle.refusals.specs.Numbers.{number};
+ghost use Rattle.cipher.specs.Numbered.{in_numbers};
+ghost use Rattle.stream.specs.Numbered.{started_in_numbers, fed_in_numbers, finished_in_numbers};
+ghost use Rattle.seal.specs.Numbered as seals;
 ghost use Rattle.hex_digits.specs.Read.{Read};
 ghost use Rattle.card.specs.Promises.{Judges, Finds, Puts};
 ghost use Rattle.card_compare.specs.Promises.{Compares};
@@ -15,54 +19,55 @@ ghost use Rattle.seal_speed.specs.Works.{SealsMessage, SealsBytes};
 
 use card_compare::Compared;
 use cipher::{Schedule, SetUp};
-use hex_digits::Reading;
+use hex_digits::Misspelled;
+use refusals::Answer;
 use seal::Seal;
 use stream::{Fed, Finished, Started, Stream};
 
 pub fn set_up(cipher: u64, key: &[u8]) -> SetUp
-    ensures { SetsUp cipher key.now result }
+    ensures { SetsUp cipher key.now (in_numbers result) }
 {
     cipher::set_up(cipher, key)
 }
 
-pub fn encipher_block(s: Schedule, block: &[u8], out: &mut [u8]) -> u8
-    ensures { EnciphersBlock s block.now out.old result out.new }
+pub fn encipher_block(s: Schedule, block: &[u8], out: &mut [u8]) -> Answer
+    ensures { EnciphersBlock s block.now out.old (number result) out.new }
 {
     cipher::encipher_block(s, block, out)
 }
 
-pub fn decipher_block(s: Schedule, block: &[u8], out: &mut [u8]) -> u8
-    ensures { DeciphersBlock s block.now out.old result out.new }
+pub fn decipher_block(s: Schedule, block: &[u8], out: &mut [u8]) -> Answer
+    ensures { DeciphersBlock s block.now out.old (number result) out.new }
 {
     cipher::decipher_block(s, block, out)
 }
 
 pub fn start(schedule: Schedule, direction: u64, first: &[u8]) -> Started
-    ensures { Starts schedule direction first.now result }
+    ensures { Starts schedule direction first.now (started_in_numbers result) }
 {
     Stream::start(schedule, direction, first)
 }
 
 pub fn feed(s: Stream, piece: &[u8], out: &mut [u8]) -> Fed
-    ensures { Feeds s piece.now out.old result out.new }
+    ensures { Feeds s piece.now out.old (fed_in_numbers result) out.new }
 {
     s.feed(piece, out)
 }
 
 pub fn finish(s: Stream) -> Finished
-    ensures { Finishes s result }
+    ensures { Finishes s (finished_in_numbers result) }
 {
     s.finish()
 }
 
-pub fn lay_down(s: Stream, out: &mut [u8]) -> u8
-    ensures { LaysDown s out.old result out.new }
+pub fn lay_down(s: Stream, out: &mut [u8]) -> Answer
+    ensures { LaysDown s out.old (number result) out.new }
 {
     stream_record::lay_down(s, out)
 }
 
 pub fn take_up(schedule: Schedule, record: &[u8]) -> Started
-    ensures { TakesUp schedule «record».now result }
+    ensures { TakesUp schedule «record».now (started_in_numbers result) }
 {
     stream_record::take_up(schedule, record)
 }
@@ -74,25 +79,25 @@ pub fn block_for_c(cipher: u64, direction: u64, key: &[u8], input: &[u8], output
 }
 
 pub fn start_seal(schedule: Schedule) -> seal::Started
-    ensures { StartsSeal schedule result }
+    ensures { StartsSeal schedule (seals.started_in_numbers result) }
 {
     Seal::start(schedule)
 }
 
 pub fn feed_seal(seal: Seal, piece: &[u8]) -> seal::Fed
-    ensures { FeedsSeal seal piece.now result }
+    ensures { FeedsSeal seal piece.now (seals.fed_in_numbers result) }
 {
     seal.feed(piece)
 }
 
 pub fn write_seal(seal: Seal, out: &mut [u8]) -> seal::Written
-    ensures { WritesSeal seal out.old result out.new }
+    ensures { WritesSeal seal out.old (seals.written_in_numbers result) out.new }
 {
     seal.write(out)
 }
 
 pub fn check_seal(seal: Seal, given: &[u8]) -> seal::Checked
-    ensures { ChecksSeal seal given.now result }
+    ensures { ChecksSeal seal given.now (seals.checked_in_numbers result) }
 {
     seal.check(given)
 }
@@ -103,7 +108,7 @@ pub fn version_for_c() -> u64
     entry::tlilcueyoh_version()
 }
 
-pub fn read_hex(text: &[u8], out: &mut [u8]) -> Reading
+pub fn read_hex(text: &[u8], out: &mut [u8]) -> Result<usize, Misspelled>
     ensures { Read text.now out.old result out.new }
 {
     hex_digits::read(text, out)
@@ -121,14 +126,14 @@ pub fn find_segment(card: &[u8], recipe: u64, segment: u64) -> &[u8]
     card::find(card, recipe, segment)
 }
 
-pub fn put_record(card: &mut [u8], record: &[u8]) -> u8
-    ensures { Puts card.old «record».now result card.new }
+pub fn put_record(card: &mut [u8], record: &[u8]) -> Answer
+    ensures { Puts card.old «record».now (number result) card.new }
 {
     card::put(card, record)
 }
 
 pub fn compare_cards(first: &[u8], second: &[u8], out: &mut [u8]) -> Compared
-    ensures { Compares first.now second.now out.old result.answer result.written out.new }
+    ensures { Compares first.now second.now out.old (number result.answer) result.written out.new }
 {
     card_compare::compare(first, second, out)
 }

@@ -3,7 +3,8 @@
 // write. Standard output carries the outcome, and no more.
 #![tactic(auto)]
 
-use key_files::{hex_file, line, schedule};
+use key_files::line::Lines;
+use key_files::{hex_file, schedule};
 use recipe_words::{arguments, outcome};
 
 // The places of the words that no other command has.
@@ -12,40 +13,37 @@ const WHICH: usize = 4;
 const FIRST_FILE: usize = 5;
 
 // With the key of all lines of the key file, or of one of two.
-fn work(rt: &HostRuntime, line: usize) {
-    let mut key = [0u8; 2048];
-    let k = hex_file::read(rt, arguments::KEY_FILE, b"keys", line, &mut key);
-    if !k.ok {
+fn work(rt: &HostRuntime, lines: Lines) {
+    let mut space = [0u8; 2048];
+    let Some(key) = hex_file::read(rt, arguments::KEY_FILE, "keys", lines, &mut space) else {
         return;
-    }
-    let mut first = [0u8; 2048];
-    let f = hex_file::read(rt, FIRST_FILE, b"first", line::ALL, &mut first);
-    if !f.ok {
+    };
+    let mut space = [0u8; 2048];
+    let Some(first) = hex_file::read(rt, FIRST_FILE, "first", Lines::All, &mut space) else {
         return;
-    }
-    let n = k.len;
-    let m = f.len;
-    let made = schedule::of(
-        rt,
-        arguments::cipher(rt, arguments::CIPHER),
-        &key[..n],
-        b"key",
-    );
-    if made.ok {
-        chain_files::start(rt, made.schedule, &first[..m]);
+    };
+    if let Some(schedule) = schedule::of(rt, key, "key") {
+        chain_files::start(rt, schedule, first);
     }
 }
 
-fn main(rt: HostRuntime) {
-    if arguments::are(&rt, 8) {
-        if arguments::is(&rt, WHICH, b"all") {
-            work(&rt, line::ALL);
-            return;
-        }
-        if arguments::is(&rt, WHICH, b"1") {
-            work(&rt, 1);
-            return;
-        }
+// Which lines of the key file are the key, if the command has all of its words.
+fn which(rt: &HostRuntime) -> Option<Lines> {
+    if !arguments::are(rt, 8) {
+        return None;
     }
-    outcome::end(&rt, b"usage");
+    if arguments::is(rt, WHICH, b"all") {
+        return Some(Lines::All);
+    }
+    if arguments::is(rt, WHICH, b"1") {
+        return Some(Lines::First);
+    }
+    None
+}
+
+fn main(rt: HostRuntime) {
+    match which(&rt) {
+        Some(lines) => work(&rt, lines),
+        None => outcome::tell(&rt, "usage"),
+    }
 }

@@ -2,12 +2,14 @@
 // outcome.
 #![tactic(auto)]
 
+ghost use Rattle.std.specs.Prelude.{IfSome};
+ghost use Rattle.io.specs.Counts.{IsPrefixLen};
+
 use card_files::{input, output};
 use card_show::changes;
-use recipe_words::files::{Laid, NOTHING};
 use recipe_words::{arguments, files, outcome};
 use std::io::Error;
-use wording::front;
+use wording::Text;
 
 const FIRST: usize = 2;
 
@@ -19,37 +21,29 @@ const OUT: usize = 4;
 const NOT_OPEN: i32 = 9;
 
 fn show(rt: &HostRuntime, first: &[u8], second: &[u8], list: &[u8]) {
-    let mut out = [0u8; 65536];
-    let n = changes::show(&mut out, first, second, list);
-    if output::put(rt, OUT, &out, n).is_none() {
-        return;
-    }
-    if list.len() == 0 {
-        outcome::end(rt, b"none");
-    } else {
-        outcome::end(rt, b"some");
+    let mut space = [0u8; 65536];
+    let mut out = Text::new(&mut space);
+    changes::show(&mut out, first, second, list);
+    if output::put(rt, OUT, out.written()).is_some() {
+        outcome::tell(rt, if list.is_empty() { "none" } else { "some" });
     }
 }
 
 fn compare_two(rt: &HostRuntime, first: &[u8], second: &[u8]) {
-    if !input::is_good(rt, first, b"first") {
+    if !input::is_good(rt, first, "first") {
         return;
     }
-    if !input::is_good(rt, second, b"second") {
+    if !input::is_good(rt, second, "second") {
         return;
     }
     let mut list = [0u8; 2048];
     let compared = card_compare::compare(first, second, &mut list);
-    if compared.answer != refusals::DONE {
-        outcome::refused(rt, compared.answer, b"card", 0);
+    if let Err(refusal) = compared.answer {
+        outcome::refused(rt, refusal, "card", 0);
         return;
     }
-    show(
-        rt,
-        first,
-        second,
-        front(&list, (compared.written % 4096) as usize),
-    );
+    let n = (compared.written as usize).min(2048);
+    show(rt, first, second, &list[..n]);
 }
 
 fn is_stdin(rt: &HostRuntime, argument: usize) -> bool {
@@ -57,25 +51,25 @@ fn is_stdin(rt: &HostRuntime, argument: usize) -> bool {
 }
 
 // The second card. Standard input is read to its end once, and can't be the second card too.
-fn second(rt: &HostRuntime, space: &mut [u8]) -> Laid {
-    if is_stdin(rt, FIRST) & is_stdin(rt, SECOND) {
+fn second(rt: &HostRuntime, space: &mut [u8]) -> Option<usize>
+    ensures { IfSome result (λ n. IsPrefixLen n space.new) }
+{
+    if is_stdin(rt, FIRST) && is_stdin(rt, SECOND) {
         let error = Error::from_raw_os_error(NOT_OPEN);
-        outcome::failed(rt, b"failed read ", b"second", &error);
-        return NOTHING;
+        outcome::failed(rt, "read", "second", &error);
+        return None;
     }
-    files::whole(rt, SECOND, b"second", true, space)
+    files::whole(rt, SECOND, "second", true, space)
 }
 
 fn main(rt: HostRuntime) {
     let mut one = [0u8; 4113];
     let mut two = [0u8; 4113];
-    let a = files::whole(&rt, FIRST, b"first", true, &mut one);
-    if !a.ok {
+    let Some(n) = files::whole(&rt, FIRST, "first", true, &mut one) else {
         return;
-    }
-    let b = second(&rt, &mut two);
-    if !b.ok {
+    };
+    let Some(m) = second(&rt, &mut two) else {
         return;
-    }
-    compare_two(&rt, front(&one, a.len), front(&two, b.len));
+    };
+    compare_two(&rt, &one[..n], &two[..m]);
 }

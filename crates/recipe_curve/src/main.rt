@@ -2,48 +2,49 @@
 #![tactic(auto)]
 
 use card_files::{input, output};
-use card_segments::first_of;
+use card_segments::Segments;
 use recipe_words::outcome;
-use wording::front;
+use refusals::Refusal;
+use wording::Text;
 
 const RECIPE: usize = 3;
 
 const OUT: usize = 4;
 
-fn draw(rt: &HostRuntime, card: &[u8], keys: &[u32], recipe: u64) {
-    let number = (recipe % 65536) as u16;
-    let first = first_of(keys, number);
-    if (recipe > 65535) | (first >= keys.len()) {
-        outcome::end_number(rt, b"absent", recipe);
-        return;
+fn draw(rt: &HostRuntime, recipe: u16, segments: Segments) {
+    let mut space = [0u8; 65536];
+    let mut out = Text::new(&mut space);
+    card_curve::draw(&mut out, recipe, segments);
+    output::all(rt, OUT, out.written());
+}
+
+// The recipe's number, and its segments, if the card has any.
+fn found(all: Segments, recipe: u64) -> Option<(u16, Segments)> {
+    let number = u16::try_from(recipe).ok()?;
+    let segments = all.of_recipe(number);
+    if segments.is_empty() {
+        return None;
     }
-    let mut out = [0u8; 65536];
-    let n = card_curve::draw(&mut out, card, keys, first, number);
-    output::all(rt, OUT, &out, n);
+    Some((number, segments))
 }
 
 fn curve_of(rt: &HostRuntime, card: &[u8]) {
-    let mut keys = [0u32; 256];
-    let judged = card::judge(card, &mut keys);
-    if !judged.good {
-        outcome::refused(rt, refusals::BAD_CARD, b"card", 0);
+    let Some(keys) = card::judge(card) else {
+        outcome::refused(rt, Refusal::BadCard, "card", 0);
         return;
-    }
-    let recipe = input::whole(rt, RECIPE, b"RECIPE");
-    if recipe.ok {
-        draw(
-            rt,
-            card,
-            card_segments::front(&keys, judged.filled),
-            recipe.value,
-        );
+    };
+    let Some(recipe) = input::whole(rt, RECIPE, "RECIPE") else {
+        return;
+    };
+    match found(Segments::of(card, keys.as_slice()), recipe) {
+        Some((number, segments)) => draw(rt, number, segments),
+        None => outcome::tell(rt, format_args!("absent {recipe}")),
     }
 }
 
 fn main(rt: HostRuntime) {
     let mut space = [0u8; 4113];
-    let c = input::card(&rt, input::CARD, &mut space);
-    if c.ok {
-        curve_of(&rt, front(&space, c.len));
+    if let Some(n) = input::card(&rt, input::CARD, &mut space) {
+        curve_of(&rt, &space[..n]);
     }
 }

@@ -12,54 +12,66 @@ mod received;
 
 use key_files::keys;
 use recipe_words::{arguments, outcome};
+use seal_files::write::Form;
 use seal_files::{given, write};
 
-// Whether the command is this one and has so many words, the program's name among them.
+#[derive(Clone, Copy, Debug, PartialEq, Eq)]
+enum Command {
+    Seal,
+    Check,
+    Keys,
+    Mark,
+    Receive,
+}
+
+// Whether the command has this name and so many words, the program's among them.
 fn is(rt: &HostRuntime, name: &[u8], words: usize) -> bool {
-    arguments::are(rt, words) & arguments::is(rt, arguments::COMMAND, name)
+    arguments::are(rt, words) && arguments::is(rt, arguments::COMMAND, name)
 }
 
-// Seals a file under the one key, or checks its seal.
-fn with_one_key(rt: &HostRuntime, checks: bool) {
-    let key = keys::one(rt);
-    if key.ok {
-        if checks {
-            given::work(rt, key.schedule);
-        } else {
-            write::work(rt, key.schedule, true);
+impl Command {
+    fn given(rt: &HostRuntime) -> Option<Self> {
+        if is(rt, b"seal", 6) {
+            return Some(Self::Seal);
         }
+        if is(rt, b"check", 6) {
+            return Some(Self::Check);
+        }
+        if is(rt, b"keys", 4) {
+            return Some(Self::Keys);
+        }
+        if is(rt, b"mark", 6) {
+            return Some(Self::Mark);
+        }
+        if is(rt, b"receive", 5) {
+            return Some(Self::Receive);
+        }
+        None
     }
-}
 
-// Marks or receives a card under two keys, or does no more than look at them.
-fn with_two_keys(rt: &HostRuntime, marks: bool, receives: bool) {
-    let mut second = [0u8; 2048];
-    let pair = keys::two(rt, &mut second);
-    if !pair.ok {
-        return;
-    }
-    if marks {
-        write::work(rt, pair.second, false);
-    } else if receives {
-        let n = pair.len;
-        received::work(rt, pair.first, pair.second, &second[..n]);
-    } else {
-        outcome::end_number(rt, b"done", 0);
+    // A file is sealed, or its seal checked, under the one key; a card is marked or received under two keys, or these are
+    // no more than looked at. None where there are no such keys.
+    fn run(self, rt: &HostRuntime) -> Option<()> {
+        let mut space = [0u8; 2048];
+        match self {
+            Self::Seal => write::work(rt, keys::one(rt)?, Form::Digits),
+            Self::Check => given::work(rt, keys::one(rt)?),
+            Self::Keys => {
+                keys::two(rt, &mut space)?;
+                outcome::tell(rt, "done 0");
+            }
+            Self::Mark => write::work(rt, keys::two(rt, &mut space)?.second, Form::Bytes),
+            Self::Receive => received::work(rt, keys::two(rt, &mut space)?),
+        }
+        Some(())
     }
 }
 
 fn main(rt: HostRuntime) {
-    if is(&rt, b"seal", 6) {
-        with_one_key(&rt, false);
-    } else if is(&rt, b"check", 6) {
-        with_one_key(&rt, true);
-    } else if is(&rt, b"keys", 4) {
-        with_two_keys(&rt, false, false);
-    } else if is(&rt, b"mark", 6) {
-        with_two_keys(&rt, true, false);
-    } else if is(&rt, b"receive", 5) {
-        with_two_keys(&rt, false, true);
-    } else {
-        outcome::end(&rt, b"usage");
+    match Command::given(&rt) {
+        Some(command) => {
+            command.run(&rt);
+        }
+        None => outcome::tell(&rt, "usage"),
     }
 }

@@ -1,5 +1,5 @@
 // A received file judged (docs/SENT.md), and the verdict told.
-use cipher::Schedule;
+use key_files::keys::Pair;
 use recipe_words::{files, outcome};
 use sent_cards::Verdict;
 
@@ -8,31 +8,23 @@ const FILE: usize = 4;
 // A byte more than the longest sent card has.
 const SPACE: usize = 4129;
 
-fn wrong_length(rt: &HostRuntime, n: usize) {
-    if n == SPACE {
-        outcome::end(rt, b"long");
-    } else {
-        outcome::end_number(rt, b"length", n as u64);
-    }
-}
-
 fn tell(rt: &HostRuntime, verdict: Verdict) {
     match verdict {
-        Verdict::Sealed => outcome::end(rt, b"yes"),
-        Verdict::Length(n) => wrong_length(rt, n),
-        Verdict::Lengthened(n) => outcome::end_number(rt, b"lengthened", n as u64),
-        Verdict::Exchanged => outcome::end(rt, b"exchanged"),
-        Verdict::OtherCipher(number) => outcome::end_number(rt, b"other", number),
-        Verdict::NotSealed => outcome::end(rt, b"no"),
+        Verdict::Sealed => outcome::tell(rt, "yes"),
+        Verdict::Length(SPACE) => outcome::tell(rt, "long"),
+        Verdict::Length(n) => outcome::tell(rt, format_args!("length {n}")),
+        Verdict::Lengthened(n) => outcome::tell(rt, format_args!("lengthened {n}")),
+        Verdict::Exchanged => outcome::tell(rt, "exchanged"),
+        Verdict::OtherCipher(number) => outcome::tell(rt, format_args!("other {number}")),
+        Verdict::NotSealed => outcome::tell(rt, "no"),
     }
 }
 
-// With the schedules of both keys, and the second key.
-pub fn work(rt: &HostRuntime, first: Schedule, second: Schedule, key: &[u8]) {
+// Under the two keys.
+pub fn work(rt: &HostRuntime, keys: Pair) {
     let mut space = [0u8; SPACE];
-    let got = files::whole(rt, FILE, b"message", true, &mut space);
-    if got.ok {
-        let n = got.len;
-        tell(rt, sent_cards::judge(first, second, key, &space[..n]));
+    if let Some(n) = files::whole(rt, FILE, "message", true, &mut space) {
+        let verdict = sent_cards::judge(keys.first, keys.second, keys.key, &space[..n]);
+        tell(rt, verdict);
     }
 }

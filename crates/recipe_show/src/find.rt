@@ -2,7 +2,7 @@
 use card_files::{input, output};
 use card_show::good;
 use recipe_words::outcome;
-use wording::front;
+use wording::Text;
 
 const RECIPE: usize = 3;
 
@@ -12,35 +12,32 @@ const OUT: usize = 5;
 
 fn find_pair(rt: &HostRuntime, card: &[u8], recipe: u64, segment: u64) {
     let slot = card::find(card, recipe, segment);
-    if slot.len() == 0 {
-        outcome::say_number(rt, b"absent", recipe);
-        outcome::end_number(rt, b"", segment);
+    if slot.is_empty() {
+        outcome::tell(rt, format_args!("absent {recipe} {segment}"));
         return;
     }
-    let mut out = [0u8; 4096];
-    let n = good::found(&mut out, slot);
-    output::all(rt, OUT, &out, n);
+    let mut space = [0u8; 4096];
+    let mut out = Text::new(&mut space);
+    good::found(&mut out, slot);
+    output::all(rt, OUT, out.written());
 }
 
 fn find_in(rt: &HostRuntime, card: &[u8]) {
-    if !input::is_good(rt, card, b"card") {
+    if !input::is_good(rt, card, "card") {
         return;
     }
-    let recipe = input::whole(rt, RECIPE, b"RECIPE");
-    if !recipe.ok {
+    let Some(recipe) = input::whole(rt, RECIPE, "RECIPE") else {
         return;
-    }
-    let segment = input::whole(rt, SEGMENT, b"SEGMENT");
-    if !segment.ok {
+    };
+    let Some(segment) = input::whole(rt, SEGMENT, "SEGMENT") else {
         return;
-    }
-    find_pair(rt, card, recipe.value, segment.value);
+    };
+    find_pair(rt, card, recipe, segment);
 }
 
 pub fn find(rt: &HostRuntime) {
     let mut space = [0u8; 4113];
-    let c = input::card(rt, input::CARD, &mut space);
-    if c.ok {
-        find_in(rt, front(&space, c.len));
+    if let Some(n) = input::card(rt, input::CARD, &mut space) {
+        find_in(rt, &space[..n]);
     }
 }

@@ -20,6 +20,6 @@ fn main(rt: HostRuntime) {
     } else if is(&rt, COMMAND, b"find") {
         find::find(&rt);
     } else {
-        outcome::end(&rt, b"usage");
+        outcome::tell(&rt, "usage");
     }
 }

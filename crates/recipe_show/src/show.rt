@@ -1,35 +1,36 @@
 // A good card by recipe and segment, a bad one by the rules that it breaks.
 use card_files::{input, output};
+use card_segments::Segments;
 use card_show::{bad, good};
 use recipe_words::outcome;
-use wording::front;
+use refusals::Refusal;
+use wording::Text;
 
 const OUT: usize = 3;
 
 fn show_bad(rt: &HostRuntime, card: &[u8]) {
-    let mut out = [0u8; 65536];
-    let n = bad::show(&mut out, card);
-    if output::put(rt, OUT, &out, n).is_some() {
-        outcome::refused(rt, refusals::BAD_CARD, b"card", 0);
+    let mut space = [0u8; 65536];
+    let mut out = Text::new(&mut space);
+    bad::show(&mut out, card);
+    if output::put(rt, OUT, out.written()).is_some() {
+        outcome::refused(rt, Refusal::BadCard, "card", 0);
     }
 }
 
 fn show_card(rt: &HostRuntime, card: &[u8]) {
-    let mut keys = [0u32; 256];
-    let judged = card::judge(card, &mut keys);
-    if !judged.good {
+    let Some(keys) = card::judge(card) else {
         show_bad(rt, card);
         return;
-    }
-    let mut out = [0u8; 65536];
-    let n = good::show(&mut out, card, card_segments::front(&keys, judged.filled));
-    output::all(rt, OUT, &out, n);
+    };
+    let mut space = [0u8; 65536];
+    let mut out = Text::new(&mut space);
+    good::show(&mut out, Segments::of(card, keys.as_slice()));
+    output::all(rt, OUT, out.written());
 }
 
 pub fn show(rt: &HostRuntime) {
     let mut space = [0u8; 4113];
-    let c = input::card(rt, input::CARD, &mut space);
-    if c.ok {
-        show_card(rt, front(&space, c.len));
+    if let Some(n) = input::card(rt, input::CARD, &mut space) {
+        show_card(rt, &space[..n]);
     }
 }

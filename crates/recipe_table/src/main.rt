@@ -16,6 +16,6 @@ fn main(rt: HostRuntime) {
     } else if is(&rt, COMMAND, b"put") {
         put::put(&rt);
     } else {
-        outcome::end(&rt, b"usage");
+        outcome::tell(&rt, "usage");
     }
 }

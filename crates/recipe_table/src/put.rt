@@ -1,11 +1,13 @@
 // A record put on a card by the proved call. A card without an empty slot is lengthened by one while it has less than 256.
-use card_fields::laid;
+ghost use Rattle.std.specs.Prelude.{◌≤◌, length};
+
+use card_fields::{Fields, laid};
 use card_files::{input, output};
+use card_rules::Field;
 use cells::trimmed;
 use recipe_words::{arguments, outcome};
 use record_words::record;
-use record_words::record::{Field, Record};
-use wording::front;
+use refusals::{Answer, Refusal};
 
 const RECIPE: usize = 3;
 
@@ -21,73 +23,60 @@ const HOLD: usize = 8;
 
 const OUT: usize = 9;
 
-fn number(rt: &HostRuntime, argument: usize, field: u8) -> Field {
+fn number(rt: &HostRuntime, argument: usize, field: Field) -> Option<u16> {
     let mut space = [0u8; 64];
     let n = arguments::lay(rt, argument, &mut space);
-    record::number(rt, 0, field, trimmed(front(&space, n)))
+    record::number(rt, 0, field, trimmed(&space[..n]))
 }
 
-fn kind(rt: &HostRuntime, argument: usize) -> Field {
+fn kind(rt: &HostRuntime, argument: usize) -> Option<u16> {
     let mut space = [0u8; 64];
     let n = arguments::lay(rt, argument, &mut space);
-    record::kind(rt, 0, trimmed(front(&space, n)))
+    record::kind(rt, 0, trimmed(&space[..n]))
 }
 
 // The record, of which a wrong field is named.
-fn fields(rt: &HostRuntime) -> Record {
-    let recipe = number(rt, RECIPE, card_rules::RECIPE);
-    let segment = number(rt, SEGMENT, card_rules::SEGMENT);
+fn fields(rt: &HostRuntime) -> Option<Fields> {
+    let recipe = number(rt, RECIPE, Field::Recipe);
+    let segment = number(rt, SEGMENT, Field::Segment);
     let kind = kind(rt, KIND);
-    let target = number(rt, TARGET, card_rules::TARGET);
-    let rate = number(rt, RATE, card_rules::RATE);
-    let hold = number(rt, HOLD, card_rules::HOLD);
+    let target = number(rt, TARGET, Field::Target);
+    let rate = number(rt, RATE, Field::Rate);
+    let hold = number(rt, HOLD, Field::Hold);
     record::of(recipe, segment, kind, target, rate, hold)
 }
 
-// The record put among the first n bytes.
-fn among(space: &mut [u8], n: usize, record: [u8; 16]) -> u8 {
-    if n > space.len() {
-        return refusals::BAD_CARD;
-    }
-    card::put(&mut space[0..n], &record)
-}
-
-fn end(rt: &HostRuntime, space: &[u8], n: usize, answer: u8) {
-    if answer == refusals::DONE {
-        output::all(rt, OUT, space, n);
-    } else {
-        outcome::refused(rt, answer, b"card", 0);
+fn end(rt: &HostRuntime, card: &[u8], answer: Answer) {
+    match answer {
+        Ok(()) => output::all(rt, OUT, card),
+        Err(refusal) => outcome::refused(rt, refusal, "card", 0),
     }
 }
 
-fn onto(rt: &HostRuntime, space: &mut [u8], n: usize, record: [u8; 16]) {
-    let answer = among(space, n, record);
-    if answer != refusals::NO_SLOT {
-        end(rt, space, n, answer);
+// The record put on the card at the front of a space.
+fn onto(rt: &HostRuntime, space: &mut [u8; 4113], n: usize, record: [u8; 16])
+    requires { n ≤ 4113 }
+{
+    let answer = card::put(&mut space[..n], &record);
+    if matches!(answer, Err(Refusal::NoSlot)) && n <= 4080 {
+        let longer = &mut space[..n + 16];
+        let answer = card::put(longer, &record);
+        end(rt, longer, answer);
         return;
     }
-    if n > 4080 {
-        end(rt, space, n, answer);
-        return;
-    }
-    let longer = n + 16;
-    let again = among(space, longer, record);
-    end(rt, space, longer, again);
+    end(rt, &space[..n], answer);
 }
 
 pub fn put(rt: &HostRuntime) {
     let mut space = [0u8; 4113];
-    let c = input::card(rt, input::CARD, &mut space);
-    if !c.ok {
+    let Some(n) = input::card(rt, input::CARD, &mut space) else {
+        return;
+    };
+    if !input::is_good(rt, &space[..n], "card") {
         return;
     }
-    if !input::is_good(rt, front(&space, c.len), b"card") {
-        return;
+    match fields(rt) {
+        Some(f) => onto(rt, &mut space, n, laid(f)),
+        None => outcome::tell(rt, "failed record"),
     }
-    let record = fields(rt);
-    if !record.ok {
-        outcome::end(rt, b"failed record");
-        return;
-    }
-    onto(rt, &mut space, c.len, laid(record.fields));
 }

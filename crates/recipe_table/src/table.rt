@@ -2,7 +2,6 @@
 use card_files::output;
 use card_table::reading;
 use recipe_words::{files, outcome};
-use wording::front;
 
 const TABLE: usize = 2;
 
@@ -13,21 +12,20 @@ fn onto_card(rt: &HostRuntime, table: &[u8]) {
     let mut lines = [0usize; 256];
     let read = reading::read(rt, table, &mut card, &mut lines);
     if !read.good {
-        outcome::end(rt, b"failed table");
+        outcome::tell(rt, "failed table");
         return;
     }
-    output::all(rt, OUT, &card, read.records % 257 * 16);
+    output::all(rt, OUT, &card[..read.records.min(256) * 16]);
 }
 
 pub fn read(rt: &HostRuntime) {
     let mut text = [0u8; 65536];
-    let t = files::whole(rt, TABLE, b"table", true, &mut text);
-    if !t.ok {
+    let Some(n) = files::whole(rt, TABLE, "table", true, &mut text) else {
+        return;
+    };
+    if n == 65536 {
+        outcome::tell(rt, "failed long table");
         return;
     }
-    if t.len == 65536 {
-        outcome::end(rt, b"failed long table");
-        return;
-    }
-    onto_card(rt, front(&text, t.len));
+    onto_card(rt, &text[..n]);
 }

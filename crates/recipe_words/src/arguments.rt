@@ -4,19 +4,6 @@ ghost use Rattle.io.specs.Counts.{IsPrefixLen};
 use spelling::word;
 use std::env::{Env, FillError};
 
-// The numbers of 01, and of 02, request 2, for the names that a person types.
-const ENCIPHER: u64 = 1;
-
-const DECIPHER: u64 = 2;
-
-const HIEROCRYPT3: u64 = 1;
-
-const E2: u64 = 2;
-
-const NOEKEON: u64 = 3;
-
-const NOEKEON_EARLIER: u64 = 4;
-
 // The places of the words that every command has.
 pub const COMMAND: usize = 1;
 
@@ -25,21 +12,15 @@ pub const CIPHER: usize = 2;
 pub const KEY_FILE: usize = 3;
 
 // How many characters of an argument are laid at the front of a space. One that is missing, or longer than the space, is
-// taken for an empty one.
+// taken for an empty one. Told by their number, as std's `arg` does: the front of the space itself makes no caller shorter.
 pub fn lay(rt: &impl Env, argument: usize, space: &mut [u8]) -> usize
     ensures { IsPrefixLen result space.new }
 {
-    match rt.arg(argument, space) {
-        Ok(n) => n,
-        Err(_) => 0,
-    }
+    rt.arg(argument, space).unwrap_or(0)
 }
 
 fn is_given(rt: &impl Env, argument: usize) -> bool {
-    match rt.arg(argument, &mut []) {
-        Err(FillError::NotPresent) => false,
-        _ => true,
-    }
+    !matches!(rt.arg(argument, &mut []), Err(FillError::NotPresent))
 }
 
 // Whether the command has so many words, the program's name among them.
@@ -47,7 +28,7 @@ pub fn are(rt: &impl Env, words: usize) -> bool {
     if words == 0 {
         return !is_given(rt, 0);
     }
-    is_given(rt, words - 1) & !is_given(rt, words)
+    is_given(rt, words - 1) && !is_given(rt, words)
 }
 
 // Whether an argument spells a name, in capitals or small letters. The name is given in small ones.
@@ -57,44 +38,50 @@ pub fn is(rt: &impl Env, argument: usize, name: &[u8]) -> bool {
     word::is(&space[..n], name)
 }
 
-// A number of one digit, or 0 where it is none.
-fn digit(rt: &impl Env, argument: usize) -> u64 {
-    let mut space = [0u8; 4096];
-    let n = lay(rt, argument, &mut space);
-    let c = space[0];
-    if n != 1 {
-        return 0;
-    }
-    match c {
-        b'0'..=b'9' => (c - b'0') as u64,
-        _ => 0,
+// A direction, with its number of 01.
+#[derive(Clone, Copy, Debug, PartialEq, Eq)]
+pub enum Direction {
+    Encipher = 1,
+    Decipher = 2,
+}
+
+impl Direction {
+    // The one that the command's word names.
+    pub fn given(rt: &impl Env) -> Option<Self> {
+        if is(rt, COMMAND, b"encipher") {
+            return Some(Self::Encipher);
+        }
+        if is(rt, COMMAND, b"decipher") {
+            return Some(Self::Decipher);
+        }
+        None
     }
 }
 
-// The direction's number, or 0, which no direction has.
-pub fn direction(rt: &impl Env) -> u64 {
-    if is(rt, COMMAND, b"encipher") {
-        return ENCIPHER;
-    }
-    if is(rt, COMMAND, b"decipher") {
-        return DECIPHER;
-    }
-    0
+// A cipher, with its number of 01, and of 02, request 2.
+#[derive(Clone, Copy, Debug, PartialEq, Eq)]
+pub enum Cipher {
+    Hierocrypt3 = 1,
+    E2 = 2,
+    Noekeon = 3,
+    NoekeonEarlier = 4,
 }
 
-// The cipher's number, or 0, which no cipher has.
-pub fn cipher(rt: &impl Env, argument: usize) -> u64 {
-    if is(rt, argument, b"hierocrypt3") {
-        return HIEROCRYPT3;
+impl Cipher {
+    // The one that the command names, or gives by its number.
+    pub fn given(rt: &impl Env) -> Option<Self> {
+        if is(rt, CIPHER, b"hierocrypt3") || is(rt, CIPHER, b"1") {
+            return Some(Self::Hierocrypt3);
+        }
+        if is(rt, CIPHER, b"e2") || is(rt, CIPHER, b"2") {
+            return Some(Self::E2);
+        }
+        if is(rt, CIPHER, b"noekeon") || is(rt, CIPHER, b"3") {
+            return Some(Self::Noekeon);
+        }
+        if is(rt, CIPHER, b"noekeon-earlier") || is(rt, CIPHER, b"4") {
+            return Some(Self::NoekeonEarlier);
+        }
+        None
     }
-    if is(rt, argument, b"e2") {
-        return E2;
-    }
-    if is(rt, argument, b"noekeon") {
-        return NOEKEON;
-    }
-    if is(rt, argument, b"noekeon-earlier") {
-        return NOEKEON_EARLIER;
-    }
-    digit(rt, argument)
 }

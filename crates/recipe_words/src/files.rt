@@ -1,20 +1,12 @@
 // The files that are read and written; where the system refuses one, the outcome says so.
+ghost use Rattle.std.specs.Prelude.{IfSome};
 ghost use Rattle.io.specs.Counts.{IsPrefixLen};
 
 use crate::{arguments, outcome};
 use spelling::word;
 use std::fs::File;
-use std::io::{Error, ErrorKind, Read, Stdin, Write};
+use std::io::{Error, Read, Stdin, Write};
 use std::{io, str};
-
-// How many bytes were laid at the front of a space, if the file had them.
-#[derive(Drop)]
-pub struct Laid {
-    pub ok: bool,
-    pub len: usize,
-}
-
-pub const NOTHING: Laid = Laid { ok: false, len: 0 };
 
 // What is read: standard input, or a file, which is closed when it is dropped.
 #[derive(Drop)]
@@ -36,10 +28,7 @@ impl Read for Source {
 const NOT_TEXT: i32 = 84;
 
 fn path(bytes: &[u8]) -> io::Result<&str> {
-    match str::from_utf8(bytes) {
-        Ok(text) => Ok(text),
-        Err(_) => Err(Error::from_raw_os_error(NOT_TEXT)),
-    }
+    str::from_utf8(bytes).map_err(|_| Error::from_raw_os_error(NOT_TEXT))
 }
 
 fn open(rt: &HostRuntime, name: &[u8]) -> io::Result<File> {
@@ -52,112 +41,89 @@ fn create(rt: &HostRuntime, name: &[u8]) -> io::Result<File> {
 
 // The file that an argument names, open for reading; one that may be standard input is so where it is named `-`.
 // None where it can't be opened.
-pub fn input(
-    rt: &HostRuntime,
-    argument: usize,
-    about: &[u8],
-    may_be_stdin: bool,
-) -> Option<Source> {
+pub fn input(rt: &HostRuntime, argument: usize, about: &str, may_be_stdin: bool) -> Option<Source> {
     let mut space = [0u8; 4096];
     let n = arguments::lay(rt, argument, &mut space);
-    if may_be_stdin & word::is(&space[..n], b"-") {
+    if may_be_stdin && word::is(&space[..n], b"-") {
         return Some(Source::Input(rt.stdin()));
     }
-    match open(rt, &space[..n]) {
-        Ok(file) => Some(Source::File(file)),
-        Err(error) => {
-            outcome::failed(rt, b"failed open ", about, &error);
-            None
-        }
-    }
+    let file = open(rt, &space[..n])
+        .inspect_err(|error| outcome::failed(rt, "open", about, error))
+        .ok()?;
+    Some(Source::File(file))
 }
 
 fn not_written(rt: &HostRuntime, error: &Error) {
-    outcome::failed(rt, b"failed write ", b"out", error);
+    outcome::failed(rt, "write", "out", error);
 }
 
 // The file to write, empty and open. None where it can't be opened.
 pub fn output(rt: &HostRuntime, argument: usize) -> Option<File> {
     let mut space = [0u8; 4096];
     let n = arguments::lay(rt, argument, &mut space);
-    match create(rt, &space[..n]) {
-        Ok(file) => Some(file),
-        Err(error) => {
-            not_written(rt, &error);
-            None
-        }
-    }
+    create(rt, &space[..n])
+        .inspect_err(|error| not_written(rt, error))
+        .ok()
 }
 
-// The rest of a file, as far as the space goes.
-fn fill(rt: &HostRuntime, from: &mut Source, about: &[u8], space: &mut [u8]) -> Laid
-    ensures { IsPrefixLen result.len space.new }
+// What one read gives: no byte at the end. None where it failed. Here and below, bytes that are read are told by their
+// number, as std's `read` does: the front of the space itself makes no caller shorter.
+fn read(rt: &HostRuntime, from: &mut Source, about: &str, bytes: &mut [u8]) -> Option<usize>
+    ensures { IfSome result (λ n. IsPrefixLen n bytes.new) }
 {
-    let mut n: usize = 0;
-    while n < space.len() {
-        match from.read(&mut space[n..]) {
-            Ok(0) => return Laid { ok: true, len: n },
-            Ok(got) => n += got,
-            Err(error) => {
-                outcome::failed(rt, b"failed read ", about, &error);
-                return NOTHING;
-            }
-        }
-    }
-    Laid { ok: true, len: n }
+    from.read(bytes)
+        .inspect_err(|error| outcome::failed(rt, "read", about, error))
+        .ok()
 }
 
-// The file that an argument names, as far as the space goes.
+// The rest of a file, as far as the space goes. The bytes are counted, since a read may give fewer than there are:
+// of std's own loops over reads one needs a Vec, and to the other an end is an error.
+fn fill(rt: &HostRuntime, from: &mut Source, about: &str, space: &mut [u8]) -> Option<usize>
+    ensures { IfSome result (λ n. IsPrefixLen n space.new) }
+{
+    let mut n = 0;
+    while n < space.len() {
+        let got = read(rt, from, about, &mut space[n..])?;
+        if got == 0 {
+            return Some(n);
+        }
+        n += got;
+    }
+    Some(n)
+}
+
+// How many bytes of the file that an argument names are laid at the front of the space, as far as this goes.
 pub fn whole(
     rt: &HostRuntime,
     argument: usize,
-    about: &[u8],
+    about: &str,
     may_be_stdin: bool,
     space: &mut [u8],
-) -> Laid
-    ensures { IsPrefixLen result.len space.new }
+) -> Option<usize>
+    ensures { IfSome result (λ n. IsPrefixLen n space.new) }
 {
-    match input(rt, argument, about, may_be_stdin) {
-        Some(mut from) => fill(rt, &mut from, about, space),
-        None => NOTHING,
-    }
+    let mut from = input(rt, argument, about, may_be_stdin)?;
+    fill(rt, &mut from, about, space)
 }
 
 // What one read of a message gives: no byte at its end.
-pub fn piece(rt: &HostRuntime, from: &mut Source, bytes: &mut [u8]) -> Laid
-    ensures { IsPrefixLen result.len bytes.new }
+pub fn piece(rt: &HostRuntime, from: &mut Source, bytes: &mut [u8]) -> Option<usize>
+    ensures { IfSome result (λ n. IsPrefixLen n bytes.new) }
 {
-    match from.read(bytes) {
-        Ok(len) => Laid { ok: true, len },
-        Err(error) => {
-            outcome::failed(rt, b"failed read ", b"message", &error);
-            NOTHING
-        }
-    }
+    read(rt, from, "message", bytes)
 }
 
-fn write(to: &mut File, bytes: &[u8], n: usize) -> io::Result<()> {
-    if n > bytes.len() {
-        return Err(Error::from(ErrorKind::InvalidInput));
-    }
-    to.write_all(&bytes[..n])
-}
-
-// The first n bytes written, if there are so many.
-pub fn put(rt: &HostRuntime, to: &mut File, bytes: &[u8], n: usize) -> bool {
-    match write(to, bytes, n) {
-        Ok(()) => true,
-        Err(error) => {
-            not_written(rt, &error);
-            false
-        }
-    }
+// Bytes written to a file.
+pub fn put(rt: &HostRuntime, to: &mut File, bytes: &[u8]) -> Option<()> {
+    to.write_all(bytes)
+        .inspect_err(|error| not_written(rt, error))
+        .ok()
 }
 
 // The end of what is written, which is on its device before it is called done.
 pub fn end(rt: &HostRuntime, to: &File, count: u64) {
     match to.sync_all() {
-        Ok(()) => outcome::end_number(rt, b"done", count),
+        Ok(()) => outcome::tell(rt, format_args!("done {count}")),
         Err(error) => not_written(rt, &error),
     }
 }

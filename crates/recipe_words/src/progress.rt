@@ -3,18 +3,13 @@
 use std::io::IsTerminal;
 
 fn is_shown(rt: &HostRuntime, count: u64) -> bool {
-    if count > 65536 {
-        return rt.stderr().is_terminal();
-    }
-    false
+    count > 65536 && rt.stderr().is_terminal()
 }
 
 // The count, after each 4,096 bytes.
 pub fn show(rt: &HostRuntime, before: u64, count: u64) {
-    if before / 4096 < count / 4096 {
-        if is_shown(rt, count) {
-            let _ = eprint!(rt; "\r{count} bytes");
-        }
+    if before / 4096 < count / 4096 && is_shown(rt, count) {
+        let _ = eprint!(rt; "\r{count} bytes");
     }
 }
 

@@ -4,30 +4,11 @@ ghost use Rattle.record_words.specs.Record as spec;
 
 use crate::named;
 use card_fields::Fields;
-use spelling::number::Spelled;
+use card_rules::Field;
 use spelling::{number as numbers, word};
 
-// A field's number, if its text is right.
-#[derive(Drop)]
-pub struct Field {
-    pub ok: bool,
-    pub value: u16,
-}
-
-const WRONG: Field = Field {
-    ok: false,
-    value: 0,
-};
-
-// The record, if all its fields are right.
-#[derive(Drop)]
-pub struct Record {
-    pub ok: bool,
-    pub fields: Fields,
-}
-
 #[tactic(auto, unfolding(crate::specs::Record::spelled_in))]
-fn spelled(field: u8, text: &[u8]) -> Spelled
+fn spelled(field: Field, text: &[u8]) -> Option<u64>
     ensures { result ≡ spec.spelled_in field text.now }
 {
     if card_rules::is_in_tenths(field) {
@@ -37,69 +18,55 @@ fn spelled(field: u8, text: &[u8]) -> Spelled
 }
 
 // A number of a line; where it is wrong, that is said.
-pub fn number(rt: &impl Print, line: usize, field: u8, text: &[u8]) -> Field
+pub fn number(rt: &impl Print, line: usize, field: Field, text: &[u8]) -> Option<u16>
     ensures { result ≡ spec.number_in field text.now }
 {
-    let n = spelled(field, text);
-    if !n.ok {
+    let Some(n) = spelled(field, text) else {
         named::no_number(rt, line, field);
-        return WRONG;
+        return None;
+    };
+    if !card_rules::may_be(field, n) {
+        named::broken(rt, line, field, n);
+        return None;
     }
-    if !card_rules::may_be(field, n.value) {
-        named::broken(rt, line, field, n.value);
-        return WRONG;
-    }
-    Field {
-        ok: true,
-        value: n.value as u16,
-    }
+    Some(n as u16)
 }
 
 // A kind's number; where there is none, that is said.
-pub fn kind(rt: &impl Print, line: usize, text: &[u8]) -> Field
+pub fn kind(rt: &impl Print, line: usize, text: &[u8]) -> Option<u16>
     ensures { result ≡ spec.kind_of text.now }
 {
     if word::is(text, b"climb") {
-        return right(card_fields::CLIMB);
+        return Some(u16::from(card_fields::CLIMB));
     }
     if word::is(text, b"hold") {
-        return right(card_fields::HOLD);
+        return Some(u16::from(card_fields::HOLD));
     }
     if word::is(text, b"drop") {
-        return right(card_fields::DROP);
+        return Some(u16::from(card_fields::DROP));
     }
     named::plain(rt, line, b"kind is none of climb, hold and drop");
-    WRONG
+    None
 }
 
-fn right(kind: u8) -> Field
-    ensures { result ≡ spec.right kind }
-{
-    Field {
-        ok: true,
-        value: kind as u16,
-    }
-}
-
+// The record, if all its fields are right.
+#[tactic(auto, unfolding(crate::specs::Record::record_of))]
 pub fn of(
-    recipe: Field,
-    segment: Field,
-    kind: Field,
-    target: Field,
-    rate: Field,
-    hold: Field,
-) -> Record
+    recipe: Option<u16>,
+    segment: Option<u16>,
+    kind: Option<u16>,
+    target: Option<u16>,
+    rate: Option<u16>,
+    hold: Option<u16>,
+) -> Option<Fields>
     ensures { result ≡ spec.record_of recipe segment kind target rate hold }
 {
-    Record {
-        ok: recipe.ok & segment.ok & kind.ok & target.ok & rate.ok & hold.ok,
-        fields: Fields {
-            recipe: recipe.value,
-            segment: (segment.value % 256) as u8,
-            kind: (kind.value % 256) as u8,
-            target: target.value,
-            rate: rate.value,
-            hold: hold.value,
-        },
-    }
+    Some(Fields {
+        recipe: recipe?,
+        segment: (segment? % 256) as u8,
+        kind: (kind? % 256) as u8,
+        target: target?,
+        rate: rate?,
+        hold: hold?,
+    })
 }

@@ -1,2 +1,3 @@
 pub mod Clear
 pub mod Behind
+pub mod Numbers

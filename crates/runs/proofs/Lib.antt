@@ -1,3 +1,4 @@
 pub mod Same
 pub mod All
 pub mod Fill
+pub mod Parts

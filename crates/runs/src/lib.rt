@@ -1,7 +1,8 @@
-// Runs of bytes: a tail that is one byte over and over, a tail of zeros, a block read from a slice, a block put into one.
+// Runs of bytes: a tail that is one byte over and over, a tail of zeros, some bytes read from a slice, and some put into one.
 #![tactic(auto)]
 
 ghost use Rattle.std.specs.Prelude.{◌≡◌, ◌++◌, ◌+◌, ◌≤◌, length, take, drop};
+ghost use Rattle.laws.specs.Places.{part};
 ghost use Rattle.runs.specs.All.{all};
 ghost use Rattle.runs.specs.Zeros.{zeros};
 
@@ -10,10 +11,8 @@ pub fn all_from(bytes: &[u8], from: usize, byte: u8) -> bool
     ensures { result ≡ all byte (drop from bytes.now) }
 {
     let mut any: u8 = 0;
-    let mut i = from;
-    while i < bytes.len() {
-        any = any | (bytes[i] ^ byte);
-        i += 1;
+    for i in from..bytes.len() {
+        any |= bytes[i] ^ byte;
     }
     any == 0
 }
@@ -25,28 +24,21 @@ pub fn zero_from(bytes: &[u8], from: usize) -> bool
     all_from(bytes, from, 0)
 }
 
-// The block, 16 bytes, from a place on.
-pub fn block_at(bytes: &[u8], at: usize) -> [u8; 16]
-    requires { at + 16 ≤ length bytes.now }
-    ensures { result ≡ take 16 (drop at bytes.now) }
+// The N bytes from a place on.
+pub fn part<const N: usize>(bytes: &[u8], at: usize) -> [u8; N]
+    requires { at + N ≤ length bytes.now }
+    ensures taken { result ≡ take N (drop at bytes.now) }
+    ensures placed { result ≡ part 0 at N bytes.now }
 {
-    let mut x = [0u8; 16];
-    let mut i = 0;
-    while i < 16 {
-        x[i] = bytes[at + i];
-        i += 1;
-    }
-    x
+    let mut part = [0u8; N];
+    part.copy_from_slice(&bytes[at..at + N]);
+    part
 }
 
-// A block put into the output at a place.
-pub fn store(out: &mut [u8], at: usize, block: [u8; 16])
-    requires { at + 16 ≤ length out.old }
-    ensures { out.new ≡ take at out.old ++ block ++ drop (at + 16) out.old }
+// N bytes put into the output at a place.
+pub fn store<const N: usize>(out: &mut [u8], at: usize, part: [u8; N])
+    requires { at + N ≤ length out.old }
+    ensures { out.new ≡ take at out.old ++ part.entry ++ drop (at + N) out.old }
 {
-    let mut j = 0;
-    while j < 16 {
-        out[at + j] = block[j];
-        j += 1;
-    }
+    out[at..at + N].copy_from_slice(&part);
 }

@@ -10,10 +10,10 @@ use Rattle.cipher.specs.Schedule.{bad, enciphered}
 use Rattle.cipher.specs.declared.Schedule.{Schedule}
 use Rattle.seal.specs.State.{seal_of, fresh, held_bytes, at_hand, bad_state, zero_seal}
 use Rattle.seal.specs.declared.Seal.{Seal}
-use Rattle.seal.specs.declared.Started.{Started}
-use Rattle.seal.specs.declared.Fed.{Fed}
-use Rattle.seal.specs.declared.Written.{Written}
-use Rattle.seal.specs.declared.Checked.{Checked}
+use Rattle.seal.specs.Numbered.{Started}
+use Rattle.seal.specs.Numbered.{Fed}
+use Rattle.seal.specs.Numbered.{Written}
+use Rattle.seal.specs.Numbered.{Checked}
 
 -- ---- start
 unfoldable pub start_refusal : Schedule → ℕ

@@ -3,10 +3,10 @@ use Rattle.std.specs.Prelude.{◌≡◌, List, ℕ, length}
 use Rattle.cipher.specs.declared.Schedule.{Schedule}
 use Rattle.seal.specs.Calls.{start, feed, write, write_out, check}
 use Rattle.seal.specs.declared.Seal.{Seal}
-use Rattle.seal.specs.declared.Started.{Started}
-use Rattle.seal.specs.declared.Fed.{Fed}
-use Rattle.seal.specs.declared.Written.{Written}
-use Rattle.seal.specs.declared.Checked.{Checked}
+use Rattle.seal.specs.Numbered.{Started}
+use Rattle.seal.specs.Numbered.{Fed}
+use Rattle.seal.specs.Numbered.{Written}
+use Rattle.seal.specs.Numbered.{Checked}
 
 -- the start of a seal under a schedule returns r
 pub record StartsSeal (s : Schedule) (r : Started) : Type 0 where

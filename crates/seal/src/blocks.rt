@@ -43,7 +43,7 @@ fn enciphered(s: Seal, block: [u8; 16]) -> [u8; 16]
 {
     let schedule = s.schedule;
     let mut out = [0u8; 16];
-    cipher::encipher_block(schedule, &block, &mut out);
+    let _ = cipher::encipher_block(schedule, &block, &mut out);
     out
 }
 
@@ -56,5 +56,5 @@ pub fn sealed(s: Seal) -> [u8; 16]
     let held = s.held;
     let last = cmac_steps::last::masked(l, held, cmac_steps::count::held_number(s.count));
     let chain = s.chain;
-    enciphered(s, words::bytes::xor16(chain, last))
+    enciphered(s, words::bytes::xor(chain, last))
 }

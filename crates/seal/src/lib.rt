@@ -2,13 +2,16 @@
 #![tactic(auto)]
 
 use cipher::Schedule;
+use refusals::{Answer, Refusal};
 
 mod blocks;
 mod state;
 
 ghost use Rattle.std.specs.Prelude.{◌≡◌};
+ghost use Rattle.refusals.specs.Numbers.{number, number_of};
 ghost use Rattle.seal.specs.State.{fresh, zero_seal};
 ghost use Rattle.seal.specs.Calls.{started_as, fed_as, checked_as};
+ghost use Rattle.seal.specs.Numbered.{started_in_numbers, fed_in_numbers, written_in_numbers, checked_in_numbers};
 ghost use Rattle.seal.specs.Promises.{StartsSeal, FeedsSeal, WritesSeal, ChecksSeal};
 
 #[derive(Clone, Copy)]
@@ -20,27 +23,29 @@ pub struct Seal {
     pub closed: bool,
 }
 
+// No Results, these four: a refused call too gives a state, and no, beside its answer, which `StartsSeal`, `FeedsSeal`,
+// `WritesSeal` and `ChecksSeal` promise.
 #[derive(Clone, Copy)]
 pub struct Started {
-    pub answer: u8,
+    pub answer: Answer,
     pub seal: Seal,
 }
 
 #[derive(Clone, Copy)]
 pub struct Fed {
-    pub answer: u8,
+    pub answer: Answer,
     pub next: Seal,
 }
 
 #[derive(Clone, Copy)]
 pub struct Written {
-    pub answer: u8,
+    pub answer: Answer,
     pub next: Seal,
 }
 
 #[derive(Clone, Copy)]
 pub struct Checked {
-    pub answer: u8,
+    pub answer: Answer,
     pub yes: bool,
     pub next: Seal,
 }
@@ -50,7 +55,7 @@ fn fresh(schedule: Schedule) -> Seal
     ensures { result ≡ fresh schedule }
 {
     Seal {
-        schedule: schedule,
+        schedule,
         count: 0,
         chain: [0u8; 16],
         held: [0u8; 16],
@@ -59,28 +64,25 @@ fn fresh(schedule: Schedule) -> Seal
 }
 
 // A refused start, with the all-zero seal.
-fn not_started(answer: u8) -> Started
-    ensures { result ≡ started_as answer zero_seal }
+fn not_started(refusal: Refusal) -> Started
+    ensures { started_in_numbers result ≡ started_as (number_of refusal) zero_seal }
 {
-    let schedule = cipher::no_schedule();
-    let seal = fresh(schedule);
-    Started { answer, seal }
-}
-
-fn fed_as(answer: u8, next: Seal) -> Fed
-    ensures { result ≡ fed_as answer next }
-{
-    Fed { answer, next: next }
-}
-
-fn checked_as(answer: u8, yes: bool, next: Seal) -> Checked
-    ensures { result ≡ checked_as answer yes next }
-{
-    Checked {
-        answer,
-        yes,
-        next: next,
+    Started {
+        answer: Err(refusal),
+        seal: fresh(cipher::no_schedule()),
     }
+}
+
+fn fed_as(answer: Answer, next: Seal) -> Fed
+    ensures { fed_in_numbers result ≡ fed_as (number answer) next }
+{
+    Fed { answer, next }
+}
+
+fn checked_as(answer: Answer, yes: bool, next: Seal) -> Checked
+    ensures { checked_in_numbers result ≡ checked_as (number answer) yes next }
+{
+    Checked { answer, yes, next }
 }
 
 impl Seal {
@@ -89,32 +91,24 @@ impl Seal {
 
     // A fresh seal under a schedule.
     pub fn start(schedule: Schedule) -> Started
-        ensures { StartsSeal schedule result }
+        ensures { StartsSeal schedule (started_in_numbers result) }
     {
-        let no = state::start_refusal(schedule);
-        if no != refusals::DONE {
-            return not_started(no);
+        if let Err(refusal) = state::start_refusal(&schedule) {
+            return not_started(refusal);
         }
-        let seal = fresh(schedule);
         Started {
-            answer: refusals::DONE,
-            seal,
+            answer: Ok(()),
+            seal: fresh(schedule),
         }
     }
 
     // A piece: every block but the last goes into the chain, and the last is held.
     pub fn feed(self, piece: &[u8]) -> Fed
-        ensures { FeedsSeal self piece.now result }
+        ensures { FeedsSeal self piece.now (fed_in_numbers result) }
     {
         let mut next = self;
-        let bad = cipher::is_bad(
-            &next.schedule.round_keys,
-            next.schedule.cipher,
-            next.schedule.key_length,
-        );
-        let no = state::piece_refusal(bad, next, piece.len());
-        if no != refusals::DONE {
-            return fed_as(no, next);
+        if let Err(refusal) = state::piece_refusal(&next, piece.len()) {
+            return fed_as(Err(refusal), next);
         }
         let kept = cmac_steps::count::held_number(next.count);
         let n = cmac_steps::count::pushed(next.count, piece.len());
@@ -126,19 +120,16 @@ impl Seal {
         }
         next.held = held;
         next.count += piece.len() as u64;
-        fed_as(refusals::DONE, next)
+        fed_as(Ok(()), next)
     }
 
     // The end of the message: its seal to the front of the output, and the state closed.
     pub fn write(self, out: &mut [u8]) -> Written
-        ensures { WritesSeal self out.old result out.new }
+        ensures { WritesSeal self out.old (written_in_numbers result) out.new }
     {
-        let schedule = self.schedule;
-        let bad = cipher::bad_schedule(schedule);
-        let no = state::write_refusal(bad, self, out.len());
-        if no != refusals::DONE {
+        if let Err(refusal) = state::write_refusal(&self, out.len()) {
             return Written {
-                answer: no,
+                answer: Err(refusal),
                 next: self,
             };
         }
@@ -147,25 +138,22 @@ impl Seal {
         let mut next = self;
         next.closed = true;
         Written {
-            answer: refusals::DONE,
+            answer: Ok(()),
             next,
         }
     }
 
     // The end of the message: whether the given bytes are its seal, and the state closed, whatever the answer.
     pub fn check(self, given: &[u8]) -> Checked
-        ensures { ChecksSeal self given.now result }
+        ensures { ChecksSeal self given.now (checked_in_numbers result) }
     {
-        let schedule = self.schedule;
-        let bad = cipher::bad_schedule(schedule);
-        let no = state::check_refusal(bad, self);
-        if no != refusals::DONE {
-            return checked_as(no, false, self);
+        if let Err(refusal) = state::check_refusal(&self) {
+            return checked_as(Err(refusal), false, self);
         }
         let seal = blocks::sealed(self);
         let yes = cmac_steps::given::is_seal(given, seal);
         let mut ended = self;
         ended.closed = true;
-        checked_as(refusals::DONE, yes, ended)
+        checked_as(Ok(()), yes, ended)
     }
 }

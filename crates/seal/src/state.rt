@@ -1,62 +1,58 @@
 // When a state is bad, and when a start, a piece, writing the seal or a check is refused.
 ghost use Rattle.std.specs.Prelude.{◌≡◌};
-ghost use Rattle.cipher.specs.Schedule.{bad};
+ghost use Rattle.refusals.specs.Numbers.{number};
 ghost use Rattle.seal.specs.State.{bad_state};
 ghost use Rattle.seal.specs.Calls.{start_refusal, piece_refusal, write_refusal, check_refusal};
 
 use crate::Seal;
 use cipher::Schedule;
+use refusals::Answer;
 
-// Is the state bad? Whether its schedule is, the call has asked.
-pub fn bad_state(bad_schedule: bool, s: Seal) -> bool
-    requires { bad_schedule ≡ bad s.schedule }
-    ensures { result ≡ bad_state s }
-{
-    if bad_schedule {
-        return true;
+impl Seal {
+    pub fn is_bad(&self) -> bool
+        ensures { result ≡ bad_state self.now }
+    {
+        if self.schedule.is_bad() {
+            return true;
+        }
+        if pieces::LIMIT < self.count {
+            return true;
+        }
+        if !runs::zero_from(&self.held, cmac_steps::count::held_number(self.count)) {
+            return true;
+        }
+        if 16 < self.count {
+            return false;
+        }
+        !runs::zero_from(&self.chain, 0)
     }
-    if pieces::LIMIT < s.count {
-        return true;
-    }
-    let held = s.held;
-    if !runs::zero_from(&held, cmac_steps::count::held_number(s.count)) {
-        return true;
-    }
-    if 16 < s.count {
-        return false;
-    }
-    let chain = s.chain;
-    !runs::zero_from(&chain, 0)
 }
 
-// The refusal of a start, or 0.
-pub fn start_refusal(schedule: Schedule) -> u8
-    ensures { result ≡ start_refusal schedule }
+// Whether a start is taken.
+pub fn start_refusal(schedule: &Schedule) -> Answer
+    ensures { number result ≡ start_refusal schedule.now }
 {
-    seal_orders::start::first(cipher::bad_schedule(schedule))
+    seal_orders::start::first(schedule.is_bad())
 }
 
-// The refusal of a piece of n bytes, or 0.
-pub fn piece_refusal(bad_schedule: bool, s: Seal, n: usize) -> u8
-    requires { bad_schedule ≡ bad s.schedule }
-    ensures { result ≡ piece_refusal s n }
+// Whether a piece of n bytes is taken.
+pub fn piece_refusal(s: &Seal, n: usize) -> Answer
+    ensures { number result ≡ piece_refusal s.now n }
 {
     let over = pieces::over_limit(s.count, n);
-    seal_orders::piece::first(bad_state(bad_schedule, s), s.closed, over)
+    seal_orders::piece::first(s.is_bad(), s.closed, over)
 }
 
-// The refusal of writing the seal, with that room, or 0.
-pub fn write_refusal(bad_schedule: bool, s: Seal, room: usize) -> u8
-    requires { bad_schedule ≡ bad s.schedule }
-    ensures { result ≡ write_refusal s room }
+// Whether the seal is written, with that room.
+pub fn write_refusal(s: &Seal, room: usize) -> Answer
+    ensures { number result ≡ write_refusal s.now room }
 {
-    seal_orders::write::first(bad_state(bad_schedule, s), s.closed, room < 16)
+    seal_orders::write::first(s.is_bad(), s.closed, room < 16)
 }
 
-// The refusal of a check, or 0.
-pub fn check_refusal(bad_schedule: bool, s: Seal) -> u8
-    requires { bad_schedule ≡ bad s.schedule }
-    ensures { result ≡ check_refusal s }
+// Whether a check is made.
+pub fn check_refusal(s: &Seal) -> Answer
+    ensures { number result ≡ check_refusal s.now }
 {
-    seal_orders::check::first(bad_state(bad_schedule, s), s.closed)
+    seal_orders::check::first(s.is_bad(), s.closed)
 }

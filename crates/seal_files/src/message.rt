@@ -4,67 +4,41 @@ use recipe_words::files::Source;
 use recipe_words::{files, outcome, progress};
 use seal::Seal;
 
-// What a piece leaves: whether more may come, whether all went well, and the seal.
-#[derive(Drop)]
-pub struct Turn {
-    pub on: bool,
-    pub ok: bool,
-    pub seal: Seal,
+// A piece fed. The next seal.
+fn piece(rt: &HostRuntime, seal: Seal, bytes: &[u8]) -> Option<Seal> {
+    let fed = seal.feed(bytes);
+    if let Err(refusal) = fed.answer {
+        outcome::refused(rt, refusal, "message", Seal::LIMIT);
+        return None;
+    }
+    progress::show(rt, seal.count, fed.next.count);
+    Some(fed.next)
 }
 
-fn stop(ok: bool, seal: Seal) -> Turn {
-    Turn {
-        on: false,
-        ok,
-        seal,
-    }
-}
-
-// What one read gives, fed.
-fn read_piece(rt: &HostRuntime, from: &mut Source, seal: Seal) -> Turn {
-    let mut bytes = [0u8; 4096];
-    let got = files::piece(rt, from, &mut bytes);
-    let n = got.len;
-    if n == 0 {
-        return stop(got.ok, seal);
-    }
-    let fed = seal.feed(&bytes[..n]);
-    if fed.answer != refusals::DONE {
-        outcome::refused(rt, fed.answer, b"message", Seal::LIMIT);
-        return stop(false, seal);
-    }
-    let next = fed.next;
-    progress::show(rt, seal.count, next.count);
-    Turn {
-        on: true,
-        ok: true,
-        seal: next,
-    }
-}
-
-// Each turn but the last takes a byte or more, and the seal takes LIMIT of them, so the turns suffice.
-fn pieces(rt: &HostRuntime, from: &mut Source, begun: Seal) -> Turn {
-    let mut seal = begun;
-    let mut turns = Seal::LIMIT + 1;
-    while turns > 0 {
-        let turn = read_piece(rt, from, seal);
-        let next = turn.seal;
-        seal = next;
-        if !turn.on {
-            progress::wipe(rt, seal.count);
-            return turn;
+// All that is read, fed. Each turn but the last takes a byte or more, and the seal takes LIMIT of them, so the turns
+// suffice.
+fn pieces(rt: &HostRuntime, from: &mut Source, seal: &mut Seal) -> Option<()> {
+    for _ in 0..=Seal::LIMIT {
+        let mut bytes = [0u8; 4096];
+        let n = files::piece(rt, from, &mut bytes)?;
+        if n == 0 {
+            return Some(());
         }
-        turns -= 1;
+        *seal = piece(rt, *seal, &bytes[..n])?;
     }
-    stop(false, seal)
+    None
 }
 
 // The seal of all of a message, neither written nor checked yet.
-pub fn feed(rt: &HostRuntime, from: &mut Source, schedule: Schedule) -> Turn {
+pub fn feed(rt: &HostRuntime, from: &mut Source, schedule: Schedule) -> Option<Seal> {
     let begun = Seal::start(schedule);
-    if begun.answer != refusals::DONE {
-        outcome::refused(rt, begun.answer, b"key", 0);
-        return stop(false, begun.seal);
+    if let Err(refusal) = begun.answer {
+        outcome::refused(rt, refusal, "key", 0);
+        return None;
     }
-    pieces(rt, from, begun.seal)
+    let mut seal = begun.seal;
+    let fed = pieces(rt, from, &mut seal);
+    progress::wipe(rt, seal.count);
+    fed?;
+    Some(seal)
 }

@@ -9,53 +9,56 @@ const MESSAGE: usize = 4;
 
 const OUTPUT: usize = 5;
 
-fn digit(d: u8) -> u8 {
-    if d % 16 < 10 {
-        b'0' + d % 16
-    } else {
-        b'a' - 10 + d % 16
-    }
+// How a seal is written.
+#[derive(Clone, Copy, Debug, PartialEq, Eq)]
+pub enum Form {
+    // In 32 hex digits and a line feed.
+    Digits,
+    Bytes,
 }
 
-// In 32 hex digits and a line feed.
+const DIGITS: [u8; 16] = *b"0123456789abcdef";
+
+// Of the lower half.
+fn digit(byte: u8) -> u8 {
+    DIGITS[(byte % 16) as usize]
+}
+
+// By hand: std's `{:02x}` writes to a formatter, and this is a file's text, which is put in one write.
 fn spelled(bytes: [u8; 16]) -> [u8; 33] {
     let mut text = [b'\n'; 33];
-    let mut i: usize = 0;
-    while i < 16 {
-        text[2 * i] = digit(bytes[i] / 16);
-        text[2 * i + 1] = digit(bytes[i]);
-        i += 1;
+    for (digits, byte) in text.chunks_exact_mut(2).zip(&bytes) {
+        digits[0] = digit(byte / 16);
+        digits[1] = digit(*byte);
     }
     text
 }
 
-fn put(rt: &HostRuntime, to: &mut File, bytes: [u8; 16], in_hex: bool) -> bool {
-    if in_hex {
-        let text = spelled(bytes);
-        return files::put(rt, to, &text, 33);
+fn put(rt: &HostRuntime, to: &mut File, bytes: [u8; 16], form: Form) -> Option<()> {
+    match form {
+        Form::Digits => files::put(rt, to, &spelled(bytes)),
+        Form::Bytes => files::put(rt, to, &bytes),
     }
-    files::put(rt, to, &bytes, 16)
 }
 
-fn end(rt: &HostRuntime, to: &mut File, seal: Seal, in_hex: bool) {
+fn end(rt: &HostRuntime, to: &mut File, seal: Seal, form: Form) {
     let mut bytes = [0u8; 16];
     let written = seal.write(&mut bytes);
-    if written.answer != refusals::DONE {
-        outcome::refused(rt, written.answer, b"message", seal.count);
-    } else if put(rt, to, bytes, in_hex) {
+    if let Err(refusal) = written.answer {
+        outcome::refused(rt, refusal, "message", seal.count);
+    } else if put(rt, to, bytes, form).is_some() {
         files::end(rt, to, seal.count);
     }
 }
 
-pub fn work(rt: &HostRuntime, schedule: Schedule, in_hex: bool) {
-    let Some(mut from) = files::input(rt, MESSAGE, b"message", true) else {
+pub fn work(rt: &HostRuntime, schedule: Schedule, form: Form) {
+    let Some(mut from) = files::input(rt, MESSAGE, "message", true) else {
         return;
     };
     let Some(mut to) = files::output(rt, OUTPUT) else {
         return;
     };
-    let fed = message::feed(rt, &mut from, schedule);
-    if fed.ok {
-        end(rt, &mut to, fed.seal, in_hex);
+    if let Some(seal) = message::feed(rt, &mut from, schedule) {
+        end(rt, &mut to, seal, form);
     }
 }

@@ -13,8 +13,8 @@ use Rattle.pieces.specs.Pieces.{limit}
 use Rattle.seal.specs.State.{bad_state}
 use Rattle.seal.specs.Calls.{piece_refusal, fed, fed_as, feed, sealed, closed_seal, write_refusal, written_as, write, write_out, check_refusal, checked_as, check}
 use Rattle.seal.specs.declared.Seal.{Seal}
-use Rattle.seal.specs.declared.Checked.{Checked}
-use Rattle.seal.specs.declared.Fed.{Fed}
+use Rattle.seal.specs.Numbered.{Checked}
+use Rattle.seal.specs.Numbered.{Fed}
 use Rattle.seal.proofs.Outcomes.{check_refused, check_done}
 
 -- ---- a piece

@@ -25,8 +25,8 @@ use Rattle.cipher.specs.declared.Schedule.{Schedule}
 use Rattle.seal.specs.State.{seal_of, fresh, at_hand, bad_state}
 use Rattle.seal.specs.Calls.{start_refusal, start, piece_refusal, fed, fed_as, feed, sealed, closed_seal, write_refusal, written_as, write, write_out, check_refusal, checked_as, check}
 use Rattle.seal.specs.declared.Seal.{Seal}
-use Rattle.seal.specs.declared.Started.{Started}
-use Rattle.seal.specs.declared.Fed.{Fed}
+use Rattle.seal.specs.Numbered.{Started}
+use Rattle.seal.specs.Numbered.{Fed}
 use Rattle.seal.proofs.Outcomes.{accepted_piece, start_refused, start-done}
 use Rattle.seal_laws.specs.AnyCut.{Call, next, accepted, after, accepted_bytes, CutAnywhere}
 use Rattle.seal_laws.specs.AnyCut.Call.{piece, writing, checking}

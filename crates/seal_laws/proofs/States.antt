@@ -22,7 +22,7 @@ use Rattle.cipher.specs.Schedule.{enciphered}
 use Rattle.seal.specs.State.{seal_of, held_number, held_bytes, at_hand, bad_state}
 use Rattle.seal.specs.Calls.{made, piece_refusal, fed, fed_as, feed, sealed, closed_seal, write_refusal, write, check_refusal, check, written_as, checked_as}
 use Rattle.seal.specs.declared.Seal.{Seal}
-use Rattle.seal.specs.declared.Fed.{Fed}
+use Rattle.seal.specs.Numbered.{Fed}
 use Rattle.seal.proofs.Outcomes.{Good, good, good_long, by_chain, accepted_piece}
 use Rattle.seal_laws.proofs.Answers.{piece_done, piece_not, piece_accepted}
 

@@ -1,14 +1,12 @@
 // The start of a seal: the first of its refusals that applies.
 ghost use Rattle.std.specs.Prelude.{◌≡◌};
+ghost use Rattle.refusals.specs.Numbers.{number};
 ghost use Rattle.refusals.specs.Refusals.{seal_start_order};
 
-use refusals::{BAD_SCHEDULE, DONE};
+use refusals::{Answer, Refusal, refuse_if};
 
-pub fn first(schedule: bool) -> u8
-    ensures { result ≡ seal_start_order schedule }
+pub fn first(schedule: bool) -> Answer
+    ensures { number result ≡ seal_start_order schedule }
 {
-    if schedule {
-        return BAD_SCHEDULE;
-    }
-    DONE
+    refuse_if(schedule, Refusal::BadSchedule)
 }

@@ -14,8 +14,8 @@ use Rattle.refusals.specs.Refusals.{done}
 use Rattle.seal.specs.Calls.{feed}
 use Rattle.seal.specs.Promises.{FeedsSeal, WritesSeal}
 use Rattle.seal.specs.declared.Seal.{Seal}
-use Rattle.seal.specs.declared.Fed.{Fed}
-use Rattle.seal.specs.declared.Written.{Written}
+use Rattle.seal.specs.Numbered.{Fed}
+use Rattle.seal.specs.Numbered.{Written}
 use Rattle.seal_speed.specs.Works.{Result, in_pieces, ones}
 
 pub written_behind : (s : Seal) (o : List ℕ) (r : Written) (o' : List ℕ) → WritesSeal s o r o'

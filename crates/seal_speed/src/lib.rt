@@ -4,6 +4,7 @@
 ghost use Rattle.std.specs.Prelude.{◌≡◌};
 ghost use Rattle.seal_speed.specs.Works.{begun, SealsMessage, SealsBytes};
 
+use refusals::number;
 use seal::Seal;
 
 // The seal of set-up and start, whether they refuse or not.
@@ -21,12 +22,11 @@ pub fn tlilcueyoh_speed_seal(cipher: u64, key: &[u8], input: &[u8], output: &mut
 {
     let seal = opened(cipher, key);
     let fed = seal.feed(input);
-    if fed.answer != refusals::DONE {
-        return fed.answer as u64;
+    if let Err(no) = fed.answer {
+        return no.number() as u64;
     }
-    let next = fed.next;
-    let written = next.write(output);
-    written.answer as u64
+    let written = fed.next.write(output);
+    number(written.answer) as u64
 }
 
 // The same in pieces of one byte, until one is refused.
@@ -34,17 +34,13 @@ pub fn tlilcueyoh_speed_seal_bytes(cipher: u64, key: &[u8], input: &[u8], output
     ensures { SealsBytes cipher key.now input.now output.old result output.new }
 {
     let mut seal = opened(cipher, key);
-    let mut i: usize = 0;
-    while i < input.len() {
-        let end = i + 1;
-        let fed = seal.feed(&input[i..end]);
-        if fed.answer != refusals::DONE {
-            return fed.answer as u64;
+    for i in 0..input.len() {
+        let fed = seal.feed(&input[i..i + 1]);
+        if let Err(no) = fed.answer {
+            return no.number() as u64;
         }
-        let next = fed.next;
-        seal = next;
-        i = end;
+        seal = fed.next;
     }
     let written = seal.write(output);
-    written.answer as u64
+    number(written.answer) as u64
 }

@@ -19,9 +19,10 @@ use Rattle.seal.specs.State.{fresh, bad_state, zero_seal}
 use Rattle.seal.specs.Calls.{start_refusal, started_as, start, piece_refusal, feed, check_refusal, check}
 use Rattle.seal.specs.Promises.{StartsSeal, FeedsSeal, ChecksSeal}
 use Rattle.seal.specs.declared.Seal.{Seal}
-use Rattle.seal.specs.declared.Started.{Started}
-use Rattle.seal.specs.declared.Fed.{Fed}
-use Rattle.seal.specs.declared.Checked.{Checked}
+use Rattle.seal.specs.Numbered.{Started, Fed, Checked, started_in_numbers, fed_in_numbers, checked_in_numbers}
+use Rattle.seal.specs.declared.Started as code-started
+use Rattle.seal.specs.declared.Fed as code-fed
+use Rattle.seal.specs.declared.Checked as code-checked
 use Rattle.seal_laws.proofs.AnyCut.{at, piece_at, check-at}
 use Rattle.sent_cards.specs.Sent.{front, last_block, sealed}
 
@@ -68,9 +69,9 @@ module _ (s : Schedule) where
       go false e = ap (λ (r : Checked). r.yes) (check-at s e a x l)
 
   -- a file: all but its last block fed, and this checked
-  module _ (file : List ℕ) (small : length file ≤ limit) (begun : Started) (fed : Fed) (checked : Checked) where
-    pub sealed_by_calls : StartsSeal s begun → FeedsSeal begun.seal (take (length file - 16 - 0) file) fed
-        → ChecksSeal fed.next (take (length file - (length file - 16)) (last_block file)) checked → checked.yes ≡ sealed s file
+  module _ (file : List ℕ) (small : length file ≤ limit) (begun : code-started.Started) (fed : code-fed.Fed) (checked : code-checked.Checked) where
+    pub sealed_by_calls : StartsSeal s (started_in_numbers begun) → FeedsSeal begun.seal (take (length file - 16 - 0) file) (fed_in_numbers fed)
+        → ChecksSeal fed.next (take (length file - (length file - 16)) (last_block file)) (checked_in_numbers checked) → checked.yes ≡ sealed s file
     unfolding sealed
     sealed_by_calls b f k =
         let e = length-take-le (length file - 16) file (omega arith) in

@@ -2,11 +2,12 @@
 use mathlib.Core.Path.{◌≡◌}
 use mathlib.Core.Bool.{true, false, ◌&&◌}
 use mathlib.Core.List.{List}
-use Prim.Native.Nat.{ℕ, ◌*◌, ◌%◌, ◌≤◌, ◌<◌}
+use Prim.Native.Nat.{ℕ, ◌*◌, ◌%◌, ◌≤◌}
 use lib.Dec.{eqb, leb}
 use lib.ListN.{length}
-use borrow.Author.Tests.{lt-ltb, le-ltb, leb-true}
+use borrow.Author.Tests.{leb-true}
 use Rattle.laws.proofs.Test.{and_left, and_right}
+use Rattle.std.specs.Prelude.{None, Some}
 use Rattle.cipher.specs.declared.Schedule.{Schedule}
 use Rattle.sent_cards.specs.declared.Verdict.TheVariants.{Sealed, Length, Lengthened, Exchanged, OtherCipher, NotSealed}
 use Rattle.sent_cards.specs.Sent.{is_length, sealed, sealed_front, sealed_by, explained, verdict}
@@ -19,24 +20,23 @@ length_within n e =
 
 module _ (one two : Schedule) (key file : List ℕ) where
   -- ---- of a file that is not sealed under the second key
-  module _ (f : ℕ) (ef : f ≡ sealed_front two file) where
-    pub is_lengthened : 0 < f → Lengthened (f * 16) ≡ explained one two key file
+  pub is_lengthened : (blocks : ℕ) → Some blocks ≡ sealed_front two file → Lengthened (blocks * 16) ≡ explained one two key file
+  unfolding explained
+  is_lengthened blocks e = rw (← e)
+
+  module _ (none : None ≡ sealed_front two file) where
+    pub is_exchanged : sealed one file ≡ true → Exchanged ≡ explained one two key file
     unfolding explained
-    is_lengthened h = rw (← ef, lt-ltb 0 f h)
+    is_exchanged x = rw (← none, x)
 
-    module _ (none : f ≤ 0) where
-      pub is_exchanged : sealed one file ≡ true → Exchanged ≡ explained one two key file
+    module _ (x : sealed one file ≡ false) where
+      pub is_other : (number : ℕ) → Some number ≡ sealed_by key file → OtherCipher number ≡ explained one two key file
       unfolding explained
-      is_exchanged x = rw (← ef, le-ltb 0 f none, x)
+      is_other number e = rw (← none, x, ← e)
 
-      module _ (x : sealed one file ≡ false) (c : ℕ) (ec : c ≡ sealed_by key file) where
-        pub is_other : 0 < c → OtherCipher c ≡ explained one two key file
-        unfolding explained
-        is_other h = rw (← ef, le-ltb 0 f none, x, ← ec, lt-ltb 0 c h)
-
-        pub is_nothing : c ≤ 0 → NotSealed ≡ explained one two key file
-        unfolding explained
-        is_nothing h = rw (← ef, le-ltb 0 f none, x, ← ec, le-ltb 0 c h)
+      pub is_nothing : None ≡ sealed_by key file → NotSealed ≡ explained one two key file
+      unfolding explained
+      is_nothing e = rw (← none, x, ← e)
 
   -- ---- of any file
   pub is_no_length : is_length (length file) ≡ false → Length (length file) ≡ verdict one two key file

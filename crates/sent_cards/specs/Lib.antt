@@ -1,3 +1,2 @@
--- A sent card, and what a received file is judged to be.
+-- What a received file is judged to be.
 pub mod Sent
-pub mod Steps

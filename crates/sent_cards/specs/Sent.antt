@@ -1,5 +1,5 @@
 -- What a received file is judged to be, in the order of docs/SENT.md, 'What is told, and how far'.
-use Rattle.std.specs.Prelude.{Bool, false, not, ◌&&◌, List, ℕ, zero, suc, ◌-◌, ◌*◌, ◌/◌, ◌%◌, eqb, leb, ltb, length, take, drop}
+use Rattle.std.specs.Prelude.{Bool, false, not, ◌&&◌, Option, None, Some, option_map, unwrap_or, List, ℕ, zero, suc, ◌-◌, ◌*◌, ◌/◌, ◌%◌, eqb, leb, length, take, drop}
 use Rattle.laws.specs.Choice.{choose}
 use Rattle.runs.specs.Same.{same}
 use Rattle.cmac.specs.Cmac.{cmac}
@@ -25,26 +25,26 @@ unfoldable pub sealed : Schedule → List ℕ → Bool
 sealed s file = choose (bad s) false (same (last_block file) (cmac (enciphered s) (front file)))
 
 -- ---- what else may be sealed
--- the first of n numbers from k on of which a test holds, or 0 where it holds of none
-abbrev pub first : (ℕ → Bool) → (k n : ℕ) → ℕ
-first t k zero = 0
-first t k (suc n) = choose (t k) k (first t (suc k) n)
+-- the first of n numbers from k on of which a test holds
+abbrev pub first : (ℕ → Bool) → (k n : ℕ) → Option ℕ
+first t k zero = None
+first t k (suc n) = choose (t k) (Some k) (first t (suc k) n)
 
 -- the number of blocks of the shortest front, but not all, that is a sent card
-unfoldable pub sealed_front : Schedule → List ℕ → ℕ
+unfoldable pub sealed_front : Schedule → List ℕ → Option ℕ
 sealed_front s file = first (λ n. sealed s (take (n * 16) file)) 2 (length file / 16 - 2)
 
 -- the cipher under which the file is sealed with this key, by the numbers of one digit
-unfoldable pub sealed_by : (key file : List ℕ) → ℕ
+unfoldable pub sealed_by : (key file : List ℕ) → Option ℕ
 sealed_by key file = first (λ c. sealed (set_up c key).schedule file) 1 9
 
 -- ---- under two keys, of which the second is the seal's
 -- of a file that is not sealed under the second
 unfoldable pub explained : (one two : Schedule) → (key file : List ℕ) → Verdict
 explained one two key file =
-    choose (ltb 0 (sealed_front two file)) (Lengthened (sealed_front two file * 16))
+    unwrap_or (option_map (λ blocks. Lengthened (blocks * 16)) (sealed_front two file))
     (choose (sealed one file) Exchanged
-    (choose (ltb 0 (sealed_by key file)) (OtherCipher (sealed_by key file))
+    (unwrap_or (option_map OtherCipher (sealed_by key file))
     NotSealed))
 
 unfoldable pub verdict : (one two : Schedule) → (key file : List ℕ) → Verdict

@@ -14,7 +14,7 @@ use Rattle.refusals.specs.Refusals.{done}
 use Rattle.stream.specs.Calls.{feed, feed_out}
 use Rattle.stream.specs.Promises.{Feeds}
 use Rattle.stream.specs.declared.Stream.{Stream}
-use Rattle.stream.specs.declared.Fed.{Fed}
+use Rattle.stream.specs.Numbered.{Fed}
 use Rattle.speed.specs.Works.{Result, by_bytes}
 
 module _ (s : Stream) (l o : List ℕ) (i : ℕ) (h : i < length l) where

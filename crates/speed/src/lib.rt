@@ -6,6 +6,7 @@ ghost use Rattle.speed.specs.Works.{begun, WorksBlocks, WorksMessage, WorksBytes
 
 use blocks_lent::Way;
 use cipher_blocks::alone;
+use refusals::{Refusal, number};
 use stream::Stream;
 
 // The blocks of the input, each by itself, in a direction.
@@ -18,15 +19,14 @@ pub fn tlilcueyoh_speed_blocks(
 ) -> u64
     ensures { WorksBlocks cipher direction key.now input.now output.old result output.new }
 {
-    let no = entry::refusal(cipher, direction, key, 16, 16);
-    if no != refusals::DONE {
-        return no as u64;
+    if let Err(no) = entry::refusal(cipher, direction, key, 16, 16) {
+        return no.number() as u64;
     }
     if input.len() % 16 != 0 {
-        return refusals::BLOCK_LENGTH as u64;
+        return Refusal::BlockLength.number() as u64;
     }
     if output.len() < input.len() {
-        return refusals::NO_ROOM as u64;
+        return Refusal::NoRoom.number() as u64;
     }
     let keys = cipher_numbers::round_keys(cipher, key);
     let way = Way {
@@ -35,7 +35,7 @@ pub fn tlilcueyoh_speed_blocks(
         direction,
     };
     alone::run(&keys, way, input, output, input.len() / 16);
-    refusals::DONE as u64
+    0
 }
 
 // The stream of set-up and start, whether they refuse or not.
@@ -60,7 +60,7 @@ pub fn tlilcueyoh_speed_cbc(
 {
     let stream = opened(cipher, direction, key, first);
     let fed = stream.feed(input, output);
-    fed.answer as u64
+    number(fed.answer) as u64
 }
 
 // The input in pieces of one byte, all to the front of the output, until one is refused.
@@ -75,16 +75,12 @@ pub fn tlilcueyoh_speed_bytes(
     ensures { WorksBytes cipher direction key.now first.now input.now output.old result output.new }
 {
     let mut stream = opened(cipher, direction, key, first);
-    let mut i: usize = 0;
-    while i < input.len() {
-        let end = i + 1;
-        let fed = stream.feed(&input[i..end], output);
-        if fed.answer != refusals::DONE {
-            return fed.answer as u64;
+    for i in 0..input.len() {
+        let fed = stream.feed(&input[i..i + 1], output);
+        if let Err(no) = fed.answer {
+            return no.number() as u64;
         }
-        let next = fed.next;
-        stream = next;
-        i = end;
+        stream = fed.next;
     }
-    refusals::DONE as u64
+    0
 }

@@ -1,37 +1,42 @@
 -- What a text spells: one law for each outcome.
-use mathlib.Core.Path.{◌≡◌, refl, sym, ap, ap₂, ◌∙◌}
+use mathlib.Core.Path.{◌≡◌, refl, ap, ap₂, ◌∙◌}
 use mathlib.Core.Bool.{Bool, true, false, ◌&&◌, and-true, false≢true}
 use mathlib.Core.List.{List}
 use Prim.Native.Nat.{ℕ, ◌+◌, ◌*◌, ◌-◌, ◌≤◌, ◌<◌}
 use native.Mathlib.Omega.{arith}
 use lib.Dec.{eqb}
-use lib.ListN.{length, get_or, take, length-take}
+use lib.ListN.{length, length-take}
 use borrow.Author.Tests.{eq-eqb, eqb-true}
 use Rattle.laws.specs.Choice.{choose}
 use Rattle.laws.proofs.Test.{and_left, and_right, fails}
 use Rattle.laws.specs.Range.{within}
-use Rattle.spelling.specs.Number.{digit, digits, value, number, front, last_but_one, last, pointed, spelled, none, whole, tenths}
-use Rattle.spelling.specs.declared.number.Spelled.{Spelled}
+use Rattle.spelling.specs.Number.{digit, digits, value, number, front, last_but_one, last, pointed, whole, tenths}
+use Rattle.std.proofs.Common.{Some, None}
+use Rattle.std.proofs.lemmas.Option.{same_Some}
 use Rattle.laws.proofs.Range.{outside, not_above, not_below}
 use Rattle.spelling.proofs.Digits.{digit_read, digit_missing, digits_small, digits_at}
 
 module _ (text : List ℕ) where
   -- ---- a whole number
-  pub whole_too_short_or_long : (1 ≤ length text → length text ≤ 9 → ⊥) → none ≡ whole text
+  pub whole_too_short_or_long : (1 ≤ length text → length text ≤ 9 → ⊥) → None ≡ whole text
   unfolding whole number
   whole_too_short_or_long out = rw (outside 1 9 (length text) out)
 
-  whole-ok : (whole text).ok ≡ number text
+  pub whole_read : {n : ℕ} → Some n ≡ whole text → (number text ≡ true) × (n ≡ value text)
   unfolding whole
-  whole-ok = go (number text)
+  whole_read {n} = go (number text)
     where
-      go : (t : Bool) → (choose t (spelled (value text)) none).ok ≡ t
-      go true = refl
-      go false = refl
+      go : (t : Bool) → Some n ≡ choose t (Some (value text)) None → (t ≡ true) × (n ≡ value text)
+      go true e = (refl, same_Some n (value text) e)
+      go false e = cc
 
-  whole-value : number text ≡ true → (whole text).value ≡ value text
+  pub whole_missing : None ≡ whole text → number text ≡ false
   unfolding whole
-  whole-value e = rw e
+  whole_missing = go (number text)
+    where
+      go : (t : Bool) → None ≡ choose t (Some (value text)) None → t ≡ false
+      go true e = cc
+      go false e = refl
 
   number_small : number text ≡ true → value text < 1000000000
   unfolding number
@@ -39,13 +44,8 @@ module _ (text : List ℕ) where
       let long = within 1 9 (length text) in
       digits_small text (not_above 1 9 (length text) (and_left long (digits text) e)) (and_right long (digits text) e)
 
-  pub whole_small : (whole text).value < 1000000000
-  unfolding whole
-  whole_small = go (number text) refl
-    where
-      go : (t : Bool) → number text ≡ t → (choose t (spelled (value text)) none).value < 1000000000
-      go true e = number_small e
-      go false e = omega arith
+  pub whole_small : {n : ℕ} → Some n ≡ whole text → n < 1000000000
+  whole_small e = let r = whole_read e in let s = number_small r.0 in omega arith
 
   -- ---- in tenths, without a point
   pub not_pointed : (2 < length text → last_but_one text ≡ 46 → ⊥) → pointed text ≡ false
@@ -60,44 +60,36 @@ module _ (text : List ℕ) where
       let l = length-take (length text - 2) text in
       n (omega arith) (eqb-true (last_but_one text) 46 (and_right f point both)))
 
-  pub tenths-whole : {r : Spelled} {v : ℕ} → r ≡ whole text → v ≡ r.value * 10 → pointed text ≡ false → record { ok = r.ok; value = v } ≡ tenths text
-  unfolding whole tenths
-  tenths-whole e h p = rw (h, e, p) (go (number text))
-    where
-      go : (t : Bool) → record { ok = (choose t (spelled (value text)) none).ok; value = (choose t (spelled (value text)) none).value * 10 }
-          ≡ choose t (spelled (value text * 10)) none
-      go true = refl
-      go false = refl
+  pub tenths-whole : {n : ℕ} → Some n ≡ whole text → Some (n * 10) ≡ tenths text
+  unfolding tenths
+  tenths-whole e = let r = whole_read e in rw r.0 (ap (λ (x : ℕ). Some (x * 10)) r.1)
+
+  pub tenths_not_whole : None ≡ whole text → pointed text ≡ false → None ≡ tenths text
+  unfolding tenths
+  tenths_not_whole e p = rw (whole_missing e, p)
 
 -- ---- in tenths, with a point
-module _ (text : List ℕ) (point : ℕ) (before : point + 2 ≡ length text) (p : get_or text point 0 ≡ 46) where
+module _ (text : List ℕ) (long : 2 ≤ length text) (p : last_but_one text ≡ 46) where
   not_whole : number text ≡ false
   unfolding number digit
   not_whole =
       fails (number text)
-      (λ e. let d = digits_at text point (omega arith) (and_right (within 1 9 (length text)) (digits text) e) in false≢true (rw p at d))
+      (λ e.
+      let d = digits_at text (length text - 2) (omega arith) (and_right (within 1 9 (length text)) (digits text) e) in false≢true (rw p at d))
 
-  tenths_by_point : tenths text ≡ choose (number (take point text) && digit (get_or text (point + 1) 0))
-      (spelled (value (take point text) * 10 + (get_or text (point + 1) 0 - 48))) none
+  tenths_by_point : tenths text ≡ choose (number (front text) && digit (last text)) (Some (value (front text) * 10 + (last text - 48))) None
   unfolding tenths pointed
-  tenths_by_point =
-      let a : length text - 2 ≡ point = omega arith in
-      let b : length text - 1 ≡ point + 1 = omega arith in
-      rw (not_whole, a, b, eq-eqb (get_or text point 0) 46 p, and-true (number (take point text)))
+  tenths_by_point = rw (not_whole, eq-eqb (last_but_one text) 46 p, and-true (number (front text)))
 
-  module _ {f : Spelled} (e : f ≡ whole (take point text)) where
-    front_number : {t : Bool} → f.ok ≡ t → number (take point text) ≡ t
-    front_number q = sym (whole-ok (take point text)) ∙ ap (λ (r : Spelled). r.ok) (sym e) ∙ q
+  pub tenths_no_front : None ≡ whole (front text) → None ≡ tenths text
+  tenths_no_front e = rw (tenths_by_point, whole_missing (front text) e)
 
-    pub tenths_no_front : f.ok ≡ false → none ≡ tenths text
-    tenths_no_front q = rw (tenths_by_point, front_number q)
+  module _ {n : ℕ} (e : Some n ≡ whole (front text)) where
+    pub tenths_no_digit : None ≡ choose (digit (last text)) (Some (last text - 48)) None → None ≡ tenths text
+    tenths_no_digit g = rw (tenths_by_point, (whole_read (front text) e).0, digit_missing (last text) g)
 
-    module _ (q : f.ok ≡ true) {d : ℕ} (g : d ≡ choose (digit (get_or text (point + 1) 0)) (get_or text (point + 1) 0 - 48) 10) where
-      pub tenths_no_digit : 9 < d → none ≡ tenths text
-      tenths_no_digit h = rw (tenths_by_point, front_number q, digit_missing (get_or text (point + 1) 0) g h)
-
-      pub tenths_pointed : {v : ℕ} → d ≤ 9 → v ≡ f.value * 10 + d → spelled v ≡ tenths text
-      tenths_pointed h k =
-          let r = digit_read (get_or text (point + 1) 0) g h in
-          let w : f.value ≡ value (take point text) = ap (λ (s : Spelled). s.value) e ∙ whole-value (take point text) (front_number q) in
-          ap spelled (k ∙ ap₂ (λ (x y : ℕ). x * 10 + y) w r.1) ∙ rw (tenths_by_point, front_number q, r.0)
+    pub tenths_pointed : {d : ℕ} → Some d ≡ choose (digit (last text)) (Some (last text - 48)) None → Some (n * 10 + d) ≡ tenths text
+    tenths_pointed g =
+        let w = whole_read (front text) e in
+        let r = digit_read (last text) g in
+        ap₂ (λ (x y : ℕ). Some (x * 10 + y)) w.1 r.1 ∙ rw (tenths_by_point, w.0, r.0)

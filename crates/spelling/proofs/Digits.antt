@@ -6,26 +6,35 @@ use Prim.Native.Nat.{ℕ, zero, suc, ◌+◌, ◌*◌, ◌-◌, ◌^◌, ◌≤�
 use native.Mathlib.Omega.{arith}
 use native.Mathlib.Nat.{le_of_suc-le-suc, not-suc-le-zero, add-zero, zero-add, pow-suc, pow-le-pow_right}
 use lib.ListN.{length, get_or}
+use Rattle.std.proofs.Common.{Some, None}
+use Rattle.std.proofs.lemmas.Option.{same_Some}
 use Rattle.laws.specs.Choice.{choose}
-use Rattle.laws.proofs.Test.{and_left, and_right, fails}
+use Rattle.laws.proofs.Test.{and_left, and_right}
 use Rattle.spelling.specs.Number.{digit, digits, behind}
 use Rattle.laws.proofs.Range.{not_above}
 
--- ---- one: its value, or 10 where it is none
+-- ---- one: its value, if it is one
 digit_small : (c : ℕ) → digit c ≡ true → c - 48 ≤ 9
 unfolding digit
 digit_small c e = let h = not_above 48 57 c e in omega arith
 
-module _ (c : ℕ) {d : ℕ} (e : d ≡ choose (digit c) (c - 48) 10) where
-  pub digit_read : d ≤ 9 → (digit c ≡ true) × (d ≡ c - 48)
-  digit_read h = go (digit c) e
+module _ (c : ℕ) where
+  pub digit_read : {d : ℕ} → Some d ≡ choose (digit c) (Some (c - 48)) None → (digit c ≡ true) × (d ≡ c - 48)
+  digit_read {d} = go (digit c)
     where
-      go : (t : Bool) → d ≡ choose t (c - 48) 10 → (t ≡ true) × (d ≡ c - 48)
-      go true p = (refl, p)
-      go false p = absurd (omega arith)
+      go : (t : Bool) → Some d ≡ choose t (Some (c - 48)) None → (t ≡ true) × (d ≡ c - 48)
+      go true p = (refl, same_Some d (c - 48) p)
+      go false p = cc
 
-  pub digit_missing : 9 < d → digit c ≡ false
-  digit_missing h = fails (digit c) (λ t. let s = digit_small c t in let z : d ≡ c - 48 = rw t at e in omega arith)
+  pub digit_at_most : {d : ℕ} → Some d ≡ choose (digit c) (Some (c - 48)) None → d ≤ 9
+  digit_at_most e = let r = digit_read e in let s = digit_small c r.0 in omega arith
+
+  pub digit_missing : None ≡ choose (digit c) (Some (c - 48)) None → digit c ≡ false
+  digit_missing = go (digit c)
+    where
+      go : (t : Bool) → None ≡ choose t (Some (c - 48)) None → t ≡ false
+      go true p = cc
+      go false p = refl
 
 -- ---- each of many
 pub digits_at : (l : List ℕ) (i : ℕ) → i < length l → digits l ≡ true → digit (get_or l i 0) ≡ true

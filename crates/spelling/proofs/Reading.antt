@@ -8,23 +8,23 @@ use native.Mathlib.Numerals.{add-one}
 use lib.ListN.{length, get_or, drop, drop_of_length-le}
 use lib.Seq.{drop-cons}
 use Rattle.laws.specs.Choice.{choose}
-use Rattle.spelling.specs.Number.{digit, digits, behind, number, spelled, none, whole}
-use Rattle.spelling.specs.declared.number.Spelled.{Spelled}
+use Rattle.spelling.specs.Number.{digit, digits, behind, number, whole}
+use Rattle.std.proofs.Common.{Option, Some, None}
 use Rattle.laws.proofs.Range.{inside}
 use Rattle.spelling.proofs.Digits.{digit_read, digit_missing, next_small, nine_digits}
 
--- ---- the characters from a place on, behind the digits of n
-abbrev pub reading : ℕ → List ℕ → Spelled
-reading n text = choose (digits text) (spelled (behind n text)) none
+-- ---- the characters from a place on, after the digits of n
+abbrev pub reading : ℕ → List ℕ → Option ℕ
+reading n text = choose (digits text) (Some (behind n text)) None
 
 module _ (l : List ℕ) (i n : ℕ) where
-  stops : i < length l → digit (get_or l i 0) ≡ false → reading n (drop i l) ≡ none
+  stops : i < length l → digit (get_or l i 0) ≡ false → reading n (drop i l) ≡ None
   stops h e = rw (drop-cons l i 0, e)
 
   goes_on : i < length l → digit (get_or l i 0) ≡ true → reading n (drop i l) ≡ reading (n * 10 + (get_or l i 0 - 48)) (drop (i + 1) l)
   goes_on h e = rw (add-one, drop-cons l i 0, e)
 
-  ends : length l ≤ i → reading n (drop i l) ≡ spelled n
+  ends : length l ≤ i → reading n (drop i l) ≡ Some n
   ends h = rw drop_of_length-le
 
 -- ---- i characters are read, and are digits
@@ -41,16 +41,16 @@ module _ {text : List ℕ} {value i : ℕ} (r : Reading text value i) where
   pub reading_small : i < length text → value < 1000000000
   reading_small h = let l = r.few in nine_digits i value (omega arith) r.small
 
-  pub reading_end : length text ≤ i → spelled value ≡ whole text
+  pub reading_end : length text ≤ i → Some value ≡ whole text
   reading_end h = sym (ends text i value h) ∙ r.same
 
-  module _ (h : i < length text) {d : ℕ} (e : d ≡ choose (digit (get_or text i 0)) (get_or text i 0 - 48) 10) where
-    pub reading_stop : 9 < d → none ≡ whole text
-    reading_stop s = sym (stops text i value h (digit_missing (get_or text i 0) e s)) ∙ r.same
+  module _ (h : i < length text) where
+    pub reading_stop : None ≡ choose (digit (get_or text i 0)) (Some (get_or text i 0 - 48)) None → None ≡ whole text
+    reading_stop e = sym (stops text i value h (digit_missing (get_or text i 0) e)) ∙ r.same
 
-    pub reading_step : d ≤ 9 → Reading text (value * 10 + d) (i + 1)
-    reading_step s =
-        let p = digit_read (get_or text i 0) e s in
+    pub reading_step : {d : ℕ} → Some d ≡ choose (digit (get_or text i 0)) (Some (get_or text i 0 - 48)) None → Reading text (value * 10 + d) (i + 1)
+    reading_step e =
+        let p = digit_read (get_or text i 0) e in
         record {
           few = r.few;
           small = rw (add-one, p.1) (next_small i value (get_or text i 0) r.small p.0);

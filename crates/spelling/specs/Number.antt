@@ -1,8 +1,7 @@
 -- A number in digits, as a person writes it (docs/BENCH.md, 'Numbers'). Characters are ASCII numbers.
-use Rattle.std.specs.Prelude.{Bool, true, false, ◌&&◌, List, [], ◌∷◌, ℕ, ◌+◌, ◌*◌, ◌-◌, eqb, length, get_or, take}
+use Rattle.std.specs.Prelude.{Option, Some, None, Bool, true, ◌&&◌, List, [], ◌∷◌, ℕ, ◌+◌, ◌*◌, ◌-◌, eqb, length, get_or, take}
 use Rattle.laws.specs.Choice.{choose}
 use Rattle.laws.specs.Range.{within}
-use Rattle.spelling.specs.declared.number.Spelled.{Spelled}
 
 -- 0 to 9
 unfoldable pub digit : ℕ → Bool
@@ -40,17 +39,11 @@ unfoldable pub pointed : List ℕ → Bool
 pointed text = number (front text) && eqb (last_but_one text) 46 && digit (last text)
 
 -- ---- the answers
-abbrev pub none : Spelled
-none = record { ok = false; value = 0 }
-
-abbrev pub spelled : ℕ → Spelled
-spelled n = record { ok = true; value = n }
-
-unfoldable pub whole : List ℕ → Spelled
-whole text = choose (number text) (spelled (value text)) none
+unfoldable pub whole : List ℕ → Option ℕ
+whole text = choose (number text) (Some (value text)) None
 
 -- in tenths
-unfoldable pub tenths : List ℕ → Spelled
+unfoldable pub tenths : List ℕ → Option ℕ
 tenths text =
-    choose (number text) (spelled (value text * 10))
-    (choose (pointed text) (spelled (value (front text) * 10 + (last text - 48))) none)
+    choose (number text) (Some (value text * 10))
+    (choose (pointed text) (Some (value (front text) * 10 + (last text - 48))) None)

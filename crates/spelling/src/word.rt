@@ -2,13 +2,11 @@
 ghost use Rattle.std.specs.Prelude.{◌≡◌};
 ghost use Rattle.spelling.specs.Word as spec;
 
+#[tactic(auto, using(crate::proofs::Words::lowercase_small))]
 fn small(letter: u8) -> u8
     ensures { result ≡ spec.small letter }
 {
-    match letter {
-        b'A'..=b'Z' => letter + 32,
-        _ => letter,
-    }
+    letter.to_ascii_lowercase()
 }
 
 // Whether a word spells a name, in capitals or small letters. The name is given in small ones.
@@ -18,12 +16,10 @@ pub fn is(word: &[u8], name: &[u8]) -> bool
     if word.len() != name.len() {
         return false;
     }
-    let mut i: usize = 0;
-    while i < name.len() {
-        if small(word[i]) != name[i] {
+    for (i, letter) in name.iter().enumerate() {
+        if small(word[i]) != *letter {
             return false;
         }
-        i += 1;
     }
     true
 }

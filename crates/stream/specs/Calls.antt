@@ -9,9 +9,9 @@ use Rattle.cbc.specs.Cbc.{out, chain, join, blocks, completed}
 use Rattle.pieces.specs.Pieces.{limit, held15}
 use Rattle.stream.specs.State.{stream_of, fresh, held_number, at_hand, bad_state, zero_stream}
 use Rattle.stream.specs.declared.Stream.{Stream}
-use Rattle.stream.specs.declared.Started.{Started}
-use Rattle.stream.specs.declared.Fed.{Fed}
-use Rattle.stream.specs.declared.Finished.{Finished}
+use Rattle.stream.specs.Numbered.{Started}
+use Rattle.stream.specs.Numbered.{Fed}
+use Rattle.stream.specs.Numbered.{Finished}
 
 -- ---- start
 unfoldable pub start_refusal : Schedule → ℕ → (first : ℕ) → ℕ

@@ -3,9 +3,9 @@ use Rattle.std.specs.Prelude.{◌≡◌, List, ℕ, length}
 use Rattle.cipher.specs.declared.Schedule.{Schedule}
 use Rattle.stream.specs.Calls.{start, feed, feed_out, finish}
 use Rattle.stream.specs.declared.Stream.{Stream}
-use Rattle.stream.specs.declared.Started.{Started}
-use Rattle.stream.specs.declared.Fed.{Fed}
-use Rattle.stream.specs.declared.Finished.{Finished}
+use Rattle.stream.specs.Numbered.{Started}
+use Rattle.stream.specs.Numbered.{Fed}
+use Rattle.stream.specs.Numbered.{Finished}
 
 -- start under a schedule, in a direction, from a first block returns r
 pub record Starts (s : Schedule) (direction : ℕ) (first : List ℕ) (r : Started) : Type 0 where

@@ -2,13 +2,16 @@
 #![tactic(auto)]
 
 use cipher::Schedule;
+use refusals::{Answer, Refusal};
 
 mod blocks;
 pub mod state;
 
 ghost use Rattle.std.specs.Prelude.{◌≡◌};
+ghost use Rattle.refusals.specs.Numbers.{number, number_of};
 ghost use Rattle.stream.specs.State.{fresh, zero_stream};
 ghost use Rattle.stream.specs.Calls.{started_as, fed_as};
+ghost use Rattle.stream.specs.Numbered.{started_in_numbers, fed_in_numbers, finished_in_numbers};
 ghost use Rattle.stream.specs.Promises.{Starts, Feeds, Finishes};
 
 #[derive(Clone, Copy)]
@@ -21,22 +24,24 @@ pub struct Stream {
     pub closed: bool,
 }
 
+// No Results, these three: a refused call too gives a state and a count beside its answer, which `Starts`, `Feeds` and
+// `Finishes` promise.
 #[derive(Clone, Copy)]
 pub struct Started {
-    pub answer: u8,
+    pub answer: Answer,
     pub stream: Stream,
 }
 
 #[derive(Clone, Copy)]
 pub struct Fed {
-    pub answer: u8,
+    pub answer: Answer,
     pub written: u64,
     pub next: Stream,
 }
 
 #[derive(Clone, Copy)]
 pub struct Finished {
-    pub answer: u8,
+    pub answer: Answer,
     pub next: Stream,
 }
 
@@ -45,7 +50,7 @@ fn fresh(schedule: Schedule, direction: u8, first: [u8; 16]) -> Stream
     ensures { result ≡ fresh schedule direction first }
 {
     Stream {
-        schedule: schedule,
+        schedule,
         direction,
         count: 0,
         chain: first,
@@ -55,21 +60,22 @@ fn fresh(schedule: Schedule, direction: u8, first: [u8; 16]) -> Stream
 }
 
 // A refused start, with the all-zero stream.
-pub fn not_started(answer: u8) -> Started
-    ensures { result ≡ started_as answer zero_stream }
+pub fn not_started(refusal: Refusal) -> Started
+    ensures { started_in_numbers result ≡ started_as (number_of refusal) zero_stream }
 {
-    let schedule = cipher::no_schedule();
-    let stream = fresh(schedule, 0, [0u8; 16]);
-    Started { answer, stream }
+    Started {
+        answer: Err(refusal),
+        stream: fresh(cipher::no_schedule(), 0, [0u8; 16]),
+    }
 }
 
-fn fed_as(answer: u8, written: u64, next: Stream) -> Fed
-    ensures { result ≡ fed_as answer written next }
+fn fed_as(answer: Answer, written: u64, next: Stream) -> Fed
+    ensures { fed_in_numbers result ≡ fed_as (number answer) written next }
 {
     Fed {
         answer,
         written,
-        next: next,
+        next,
     }
 }
 
@@ -79,33 +85,24 @@ impl Stream {
 
     // A fresh stream under a schedule, in a direction, from a first block.
     pub fn start(schedule: Schedule, direction: u64, first: &[u8]) -> Started
-        ensures { Starts schedule direction first.now result }
+        ensures { Starts schedule direction first.now (started_in_numbers result) }
     {
-        let no = state::start_refusal(schedule, direction, first.len());
-        if no != refusals::DONE {
-            return not_started(no);
+        if let Err(refusal) = state::start_refusal(&schedule, direction, first.len()) {
+            return not_started(refusal);
         }
-        let block = runs::block_at(first, 0);
-        let stream = fresh(schedule, (direction % 256) as u8, block);
         Started {
-            answer: refusals::DONE,
-            stream,
+            answer: Ok(()),
+            stream: fresh(schedule, (direction % 256) as u8, runs::part(first, 0)),
         }
     }
 
     // A piece: its whole blocks to the front of the output, the bytes behind them held.
     pub fn feed(self, piece: &[u8], out: &mut [u8]) -> Fed
-        ensures { Feeds self piece.now out.old result out.new }
+        ensures { Feeds self piece.now out.old (fed_in_numbers result) out.new }
     {
         let mut next = self;
-        let bad = cipher::is_bad(
-            &next.schedule.round_keys,
-            next.schedule.cipher,
-            next.schedule.key_length,
-        );
-        let no = state::piece_refusal(bad, next, piece.len(), out.len());
-        if no != refusals::DONE {
-            return fed_as(no, 0, next);
+        if let Err(refusal) = state::piece_refusal(&next, piece.len(), out.len()) {
+            return fed_as(Err(refusal), 0, next);
         }
         let kept = (next.count % 16) as usize;
         let n = (kept + piece.len()) / 16;
@@ -117,18 +114,16 @@ impl Stream {
         pieces::held::left_over(&mut held, kept, piece, n);
         next.held = held;
         next.count += piece.len() as u64;
-        fed_as(refusals::DONE, (16 * n) as u64, next)
+        fed_as(Ok(()), (16 * n) as u64, next)
     }
 
     // The end of the message: closed, where no byte is held.
     pub fn finish(self) -> Finished
-        ensures { Finishes self result }
+        ensures { Finishes self (finished_in_numbers result) }
     {
-        let schedule = self.schedule;
-        let bad = cipher::bad_schedule(schedule);
-        let answer = state::finish_refusal(bad, self);
+        let answer = state::finish_refusal(&self);
         let mut next = self;
-        if answer == refusals::DONE {
+        if answer.is_ok() {
             next.closed = true;
         }
         Finished { answer, next }

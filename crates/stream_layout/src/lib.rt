@@ -56,10 +56,8 @@ pub fn write(f: Fields, out: &mut [u8])
     ensures { out.new ≡ laid f ++ drop record_length out.old }
 {
     put_numbers(f, out);
-    let chain = f.chain;
-    runs::store(out, CHAIN, chain);
-    let held = f.held;
-    runs::store(out, HELD, held);
+    runs::store(out, CHAIN, f.chain);
+    runs::store(out, HELD, f.held);
 }
 
 // The fields of a record.
@@ -67,17 +65,14 @@ pub fn read(record: &[u8]) -> Fields
     requires { length «record».now ≡ record_length }
     ensures { result ≡ spelt «record».now }
 {
-    let count = number::at(record, COUNT, COUNT_WIDTH);
-    let chain = runs::block_at(record, CHAIN);
-    let held = runs::block_at(record, HELD);
     Fields {
         cipher: record[CIPHER],
         key_length: record[KEY_LENGTH],
         direction: record[DIRECTION],
         closed: record[CLOSED],
-        count,
-        chain: chain,
-        held: held,
+        count: number::at(record, COUNT, COUNT_WIDTH),
+        chain: runs::part(record, CHAIN),
+        held: runs::part(record, HELD),
     }
 }
 
@@ -85,45 +80,14 @@ pub fn read(record: &[u8]) -> Fields
 pub fn in_sixteen(fifteen: [u8; 15]) -> [u8; 16]
     ensures { result ≡ part 0 0 15 fifteen ++ (0 ∷ []) }
 {
-    [
-        fifteen[0],
-        fifteen[1],
-        fifteen[2],
-        fifteen[3],
-        fifteen[4],
-        fifteen[5],
-        fifteen[6],
-        fifteen[7],
-        fifteen[8],
-        fifteen[9],
-        fifteen[10],
-        fifteen[11],
-        fifteen[12],
-        fifteen[13],
-        fifteen[14],
-        0,
-    ]
+    let mut sixteen = [0u8; 16];
+    runs::store(&mut sixteen, 0, fifteen);
+    sixteen
 }
 
 // And in a stream's fifteen again.
 pub fn in_fifteen(sixteen: [u8; 16]) -> [u8; 15]
     ensures { result ≡ part 0 0 15 sixteen }
 {
-    [
-        sixteen[0],
-        sixteen[1],
-        sixteen[2],
-        sixteen[3],
-        sixteen[4],
-        sixteen[5],
-        sixteen[6],
-        sixteen[7],
-        sixteen[8],
-        sixteen[9],
-        sixteen[10],
-        sixteen[11],
-        sixteen[12],
-        sixteen[13],
-        sixteen[14],
-    ]
+    runs::part(&sixteen, 0)
 }

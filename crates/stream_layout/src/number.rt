@@ -8,11 +8,9 @@ pub fn put(bytes: &mut [u8], at: usize, width: usize, n: u64)
     ensures { bytes.new ≡ take at bytes.old ++ bytes_in width n ++ drop (at + width) bytes.old }
 {
     let mut rest = n;
-    let mut k = width;
-    while k > 0 {
-        k -= 1;
+    for k in (0..width).rev() {
         bytes[at + k] = (rest % 256) as u8;
-        rest = rest / 256;
+        rest /= 256;
     }
 }
 
@@ -22,10 +20,8 @@ pub fn at(bytes: &[u8], from: usize, width: usize) -> u64
     ensures { result ≡ number_of (take width (drop from bytes.now)) }
 {
     let mut n: u64 = 0;
-    let mut i = 0;
-    while i < width {
+    for i in 0..width {
         n = n * 256 + bytes[from + i] as u64;
-        i += 1;
     }
     n
 }

@@ -1,23 +1,15 @@
 // A piece: the first of its refusals that applies.
 ghost use Rattle.std.specs.Prelude.{◌≡◌};
+ghost use Rattle.refusals.specs.Numbers.{number};
 ghost use Rattle.refusals.specs.Refusals.{piece_order};
 
-use refusals::{BAD_STATE, CLOSED, DONE, NO_ROOM, OVER_LIMIT};
+use refusals::{Answer, Refusal, refuse_if};
 
-pub fn first(state: bool, ended: bool, limit: bool, room: bool) -> u8
-    ensures { result ≡ piece_order state ended limit room }
+pub fn first(state: bool, ended: bool, limit: bool, room: bool) -> Answer
+    ensures { number result ≡ piece_order state ended limit room }
 {
-    if state {
-        return BAD_STATE;
-    }
-    if ended {
-        return CLOSED;
-    }
-    if limit {
-        return OVER_LIMIT;
-    }
-    if room {
-        return NO_ROOM;
-    }
-    DONE
+    refuse_if(state, Refusal::BadState)?;
+    refuse_if(ended, Refusal::Closed)?;
+    refuse_if(limit, Refusal::OverLimit)?;
+    refuse_if(room, Refusal::NoRoom)
 }

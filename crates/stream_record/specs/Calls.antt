@@ -8,7 +8,7 @@ use Rattle.stream_layout.specs.Layout.{record_length, spelt}
 use Rattle.stream.specs.State.{bad_state, zero_stream}
 use Rattle.stream.specs.Calls.{started_as}
 use Rattle.stream.specs.declared.Stream.{Stream}
-use Rattle.stream.specs.declared.Started.{Started}
+use Rattle.stream.specs.Numbered.{Started}
 use Rattle.stream_record.specs.Record.{record_of, stream_from, bad_record, differs}
 
 -- ---- laying a stream down: its record at the front of the output, the rest as it was

@@ -2,7 +2,7 @@
 use Rattle.std.specs.Prelude.{◌≡◌, List, ℕ, length}
 use Rattle.cipher.specs.declared.Schedule.{Schedule}
 use Rattle.stream.specs.declared.Stream.{Stream}
-use Rattle.stream.specs.declared.Started.{Started}
+use Rattle.stream.specs.Numbered.{Started}
 use Rattle.stream_record.specs.Calls.{lay_down_refusal, lay_down_out, take_up}
 
 -- a stream laid down in the output o answers r and leaves o'

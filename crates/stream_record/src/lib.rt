@@ -2,11 +2,14 @@
 #![tactic(auto)]
 
 ghost use Rattle.std.specs.Prelude.{◌≡◌};
+ghost use Rattle.refusals.specs.Numbers.{number};
+ghost use Rattle.stream.specs.Numbered.{started_in_numbers};
 ghost use Rattle.stream_record.specs.Record.{fields_of, stream_from, bad_fields, differs};
 ghost use Rattle.stream_record.specs.Calls.{lay_down_refusal, take_up_refusal};
 ghost use Rattle.stream_record.specs.Promises.{LaysDown, TakesUp};
 
 use cipher::Schedule;
+use refusals::Answer;
 use stream::{Started, Stream};
 use stream_layout::Fields;
 
@@ -15,16 +18,15 @@ fn fields_of(s: Stream) -> Fields
     ensures { result ≡ fields_of s }
 {
     let chain = s.chain;
-    let fifteen = s.held;
-    let held = stream_layout::in_sixteen(fifteen);
+    let held = stream_layout::in_sixteen(s.held);
     Fields {
         cipher: s.schedule.cipher,
         key_length: s.schedule.key_length,
         direction: s.direction,
         closed: if s.closed { 1 } else { 0 },
         count: s.count,
-        chain: chain,
-        held: held,
+        chain,
+        held,
     }
 }
 
@@ -33,14 +35,13 @@ fn stream_from(schedule: Schedule, f: Fields) -> Stream
     ensures { result ≡ stream_from schedule f }
 {
     let chain = f.chain;
-    let sixteen = f.held;
-    let held = stream_layout::in_fifteen(sixteen);
+    let held = stream_layout::in_fifteen(f.held);
     Stream {
-        schedule: schedule,
+        schedule,
         direction: f.direction,
         count: f.count,
-        chain: chain,
-        held: held,
+        chain,
+        held,
         closed: f.closed == 1,
     }
 }
@@ -52,8 +53,7 @@ fn bad_fields(f: Fields) -> bool
     if 1 < f.closed {
         return true;
     }
-    let held = f.held;
-    if held[15] != 0 {
+    if f.held[15] != 0 {
         return true;
     }
     let schedule = Schedule {
@@ -61,9 +61,7 @@ fn bad_fields(f: Fields) -> bool
         cipher: f.cipher,
         key_length: f.key_length,
     };
-    let bad = cipher::bad_schedule(schedule);
-    let spelled = stream_from(schedule, f);
-    stream::state::bad_state(bad, spelled)
+    stream_from(schedule, f).is_bad()
 }
 
 // Is the record of another cipher or key length?
@@ -77,23 +75,18 @@ fn differs(schedule: Schedule, f: Fields) -> bool
     f.key_length != schedule.key_length
 }
 
-// The refusal of laying down in that room, or 0.
-fn lay_down_refusal(s: Stream, room: usize) -> u8
-    ensures { result ≡ lay_down_refusal s room }
+// Whether a stream is laid down in that room.
+fn lay_down_refusal(s: Stream, room: usize) -> Answer
+    ensures { number result ≡ lay_down_refusal s room }
 {
-    let schedule = s.schedule;
-    let bad = cipher::bad_schedule(schedule);
-    stream_orders::lay_down::first(
-        stream::state::bad_state(bad, s),
-        room < stream_layout::LENGTH,
-    )
+    stream_orders::lay_down::first(s.is_bad(), room < stream_layout::LENGTH)
 }
 
-// The refusal of taking a record up, or 0.
-fn take_up_refusal(schedule: Schedule, record: &[u8]) -> u8
-    ensures { result ≡ take_up_refusal schedule «record».now }
+// Whether a record is taken up.
+fn take_up_refusal(schedule: Schedule, record: &[u8]) -> Answer
+    ensures { number result ≡ take_up_refusal schedule «record».now }
 {
-    let bad = cipher::bad_schedule(schedule);
+    let bad = schedule.is_bad();
     if record.len() != stream_layout::LENGTH {
         return stream_orders::take_up::first(bad, true, false);
     }
@@ -102,29 +95,23 @@ fn take_up_refusal(schedule: Schedule, record: &[u8]) -> u8
 }
 
 // The stream's record to the front of the output.
-pub fn lay_down(stream: Stream, out: &mut [u8]) -> u8
-    ensures { LaysDown stream out.old result out.new }
+pub fn lay_down(stream: Stream, out: &mut [u8]) -> Answer
+    ensures { LaysDown stream out.old (number result) out.new }
 {
-    let no = lay_down_refusal(stream, out.len());
-    if no != refusals::DONE {
-        return no;
-    }
+    lay_down_refusal(stream, out.len())?;
     stream_layout::write(fields_of(stream), out);
-    refusals::DONE
+    Ok(())
 }
 
 // The stream of a record, under a schedule. Round keys are in no record, so another key of the same length can't be noticed.
 pub fn take_up(schedule: Schedule, record: &[u8]) -> Started
-    ensures { TakesUp schedule «record».now result }
+    ensures { TakesUp schedule «record».now (started_in_numbers result) }
 {
-    let no = take_up_refusal(schedule, record);
-    if no != refusals::DONE {
-        return stream::not_started(no);
+    if let Err(refusal) = take_up_refusal(schedule, record) {
+        return stream::not_started(refusal);
     }
-    let f = stream_layout::read(record);
-    let stream = stream_from(schedule, f);
     Started {
-        answer: refusals::DONE,
-        stream,
+        answer: Ok(()),
+        stream: stream_from(schedule, stream_layout::read(record)),
     }
 }

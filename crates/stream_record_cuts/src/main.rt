@@ -2,111 +2,99 @@
 // but the 40 bytes and the key, and must end as the uncut run does. A line for each tells how many runs differ.
 #![tactic(auto)]
 
-use edge_words::{front, hex, line, number, say};
+use edge_words::{Hex, front, line, say};
+use std::array;
 use stream::Stream;
 
-// Where in the message it is cut: at one place, or at every one.
+// Where in the message it is cut: at every place, or at one.
 #[derive(Clone, Copy)]
-struct Stops {
-    every: bool,
-    place: usize,
+enum Stops {
+    Every,
+    At(usize),
 }
 
-// A message on its way: whether every call was done, the stream, and how many bytes are written.
+impl Stops {
+    fn has(self, place: usize) -> bool {
+        match self {
+            Self::Every => true,
+            Self::At(only) => place == only,
+        }
+    }
+}
+
+// A call that was refused ends its run.
+// What a run leaves: how many bytes are written, these, and the stream, by its record.
+#[derive(Clone, Copy, PartialEq, Eq)]
+struct End {
+    written: usize,
+    out: [u8; 112],
+    record: [u8; 40],
+}
+
+// A message on its way: the stream, and how many bytes are written.
 #[derive(Clone, Copy)]
 struct Run {
-    done: bool,
     stream: Stream,
     written: usize,
 }
 
-fn begun(fresh: Stream) -> Run {
-    Run {
-        done: true,
-        stream: fresh,
-        written: 0,
-    }
-}
-
-// A piece, whose blocks go behind what is written.
-fn feed(r: Run, piece: &[u8], out: &mut [u8]) -> Run {
-    let at = r.written % 113;
-    if out.len() < at {
-        return r;
-    }
-    let f = r.stream.feed(piece, &mut out[at..]);
-    let stream = f.next;
-    Run {
-        done: r.done & (f.answer == 0),
-        stream,
-        written: at + (f.written % 113) as usize,
-    }
-}
-
-fn wide(byte: u8) -> u64 {
-    byte as u64
-}
-
-// The power goes: only the record and the key are left. The record's first byte tells the cipher.
-fn cut(r: Run, key: &[u8]) -> Run {
-    let mut record = [0u8; 40];
-    let answer = stream_record::lay_down(r.stream, &mut record);
-    let made = cipher::set_up(wide(record[0]), key);
-    let taken = stream_record::take_up(made.schedule, &record);
-    let stream = taken.stream;
-    Run {
-        done: r.done & (answer == 0) & (taken.answer == 0),
-        stream,
-        written: r.written,
-    }
-}
-
-// Whole blocks are finished.
-fn end(r: Run) -> Run {
-    if r.stream.count % 16 != 0 {
-        return r;
-    }
-    let f = r.stream.finish();
-    let stream = f.next;
-    Run {
-        done: r.done & (f.answer == 0),
-        stream,
-        written: r.written,
-    }
-}
-
-fn uncut(fresh: Stream, message: &[u8], out: &mut [u8]) -> Run {
-    end(feed(begun(fresh), message, out))
-}
-
-// Byte by byte, with a cut or a cut at every byte.
-fn with_cuts(fresh: Stream, key: &[u8], message: &[u8], c: Stops, out: &mut [u8]) -> Run {
-    let mut r = begun(fresh);
-    let mut i: usize = 0;
-    while i < message.len() {
-        if c.every | (i == c.place) {
-            let again = cut(r, key);
-            r = again;
+impl Run {
+    fn begun(fresh: Stream) -> Self {
+        Self {
+            stream: fresh,
+            written: 0,
         }
-        let next = i + 1;
-        let fed = feed(r, &message[i..next], out);
-        r = fed;
-        i = next;
     }
-    if c.every | (i == c.place) {
-        let again = cut(r, key);
-        r = again;
-    }
-    end(r)
-}
 
-// The same end: all calls done, as many bytes written, and one stream, by its record.
-fn agree(a: Run, b: Run) -> bool {
-    let mut of_a = [0u8; 40];
-    let mut of_b = [1u8; 40];
-    stream_record::lay_down(a.stream, &mut of_a);
-    stream_record::lay_down(b.stream, &mut of_b);
-    a.done & b.done & (a.written == b.written) & (of_a == of_b)
+    // A piece, whose blocks go after what is written.
+    fn feed(self, piece: &[u8], out: &mut [u8]) -> Option<Self> {
+        let fed = self.stream.feed(piece, out.get_mut(self.written..)?);
+        fed.answer.ok()?;
+        Some(Self {
+            stream: fed.next,
+            written: self.written.checked_add(fed.written as usize)?,
+        })
+    }
+
+    // The power goes: only the record and the key are left. The record's first byte tells the cipher.
+    fn cut(self, key: &[u8]) -> Option<Self> {
+        let record = self.record()?;
+        let made = cipher::set_up(u64::from(record[0]), key);
+        let taken = stream_record::take_up(made.schedule, &record);
+        taken.answer.ok()?;
+        Some(Self {
+            stream: taken.stream,
+            written: self.written,
+        })
+    }
+
+    fn record(&self) -> Option<[u8; 40]> {
+        let mut record = [0u8; 40];
+        stream_record::lay_down(self.stream, &mut record).ok()?;
+        Some(record)
+    }
+
+    // Whole blocks are finished.
+    fn finish(self) -> Option<Self> {
+        if self.stream.count % 16 != 0 {
+            return Some(self);
+        }
+        let finished = self.stream.finish();
+        finished.answer.ok()?;
+        Some(Self {
+            stream: finished.next,
+            written: self.written,
+        })
+    }
+
+    fn end(self, out: [u8; 112]) -> Option<End> {
+        let finished = self.finish()?;
+        Some(End {
+            written: finished.written,
+            out,
+            record: finished.record()?,
+        })
+    }
 }
 
 // How many runs there were, and how many of them differed from the uncut one.
@@ -116,117 +104,129 @@ struct Tally {
     differ: u64,
 }
 
-fn counted(t: Tally, differs: bool) -> Tally {
-    let differ = t.differ % 1000000;
-    Tally {
-        runs: t.runs % 1000000 + 1,
-        differ: if differs { differ + 1 } else { differ },
+impl Tally {
+    fn count(&mut self, uncut: &Option<End>, cut: &Option<End>) {
+        self.runs = self.runs.saturating_add(1);
+        if uncut.is_none() || uncut != cut {
+            self.differ = self.differ.saturating_add(1);
+        }
+    }
+
+    fn tell(&self, rt: &impl Print, words: &str) {
+        let runs = self.runs;
+        let differ = self.differ;
+        say(
+            rt,
+            format_args!("{runs} runs with {words}, {differ} differ; "),
+        );
     }
 }
 
-// Does a message with these cuts end otherwise than the uncut run a, which wrote the whole?
-fn differs(fresh: Stream, key: &[u8], message: &[u8], c: Stops, a: Run, whole: &[u8]) -> bool {
-    let mut joined = [238u8; 112];
-    let b = with_cuts(fresh, key, message, c, &mut joined);
-    !(agree(a, b) & (whole == &joined[..]))
+// How a message is cut: once, at each place in turn, or at every byte.
+#[derive(Clone, Copy)]
+enum Cuts {
+    Once,
+    Always,
 }
 
-// One cut, at the place.
-fn once(place: usize) -> Stops {
-    Stops {
-        every: false,
-        place,
-    }
-}
-
-// A message with one cut, at each place in turn.
-fn at_each_place(
+// A message for a fresh stream, and the stream's key.
+#[derive(Clone, Copy)]
+struct Message<'a> {
     fresh: Stream,
-    key: &[u8],
-    message: &[u8],
-    a: Run,
-    whole: &[u8],
-    t: Tally,
-) -> Tally {
-    let mut sum = t;
-    let mut place: usize = 0;
-    while place < message.len() {
-        let more = counted(sum, differs(fresh, key, message, once(place), a, whole));
-        sum = more;
-        place += 1;
+    key: &'a [u8],
+    text: &'a [u8],
+}
+
+impl Message<'_> {
+    fn uncut(&self) -> Option<End> {
+        let mut out = [238u8; 112];
+        let run = Run::begun(self.fresh).feed(self.text, &mut out)?;
+        run.end(out)
     }
-    counted(sum, differs(fresh, key, message, once(place), a, whole))
-}
 
-// A message with one cut at each place, or with a cut at every byte.
-fn of_message(fresh: Stream, key: &[u8], message: &[u8], every: bool, t: Tally) -> Tally {
-    let mut whole = [238u8; 112];
-    let a = uncut(fresh, message, &mut whole);
-    if every {
-        let c = Stops { every, place: 0 };
-        return counted(t, differs(fresh, key, message, c, a, &whole));
+    // Byte by byte.
+    fn cut(&self, stops: Stops) -> Option<End> {
+        let mut out = [238u8; 112];
+        let mut run = Run::begun(self.fresh);
+        for (place, byte) in self.text.chunks(1).enumerate() {
+            if stops.has(place) {
+                run = run.cut(self.key)?;
+            }
+            run = run.feed(byte, &mut out)?;
+        }
+        if stops.has(self.text.len()) {
+            run = run.cut(self.key)?;
+        }
+        run.end(out)
     }
-    at_each_place(fresh, key, message, a, &whole, t)
-}
 
-// Every front of a message.
-fn of_all_lengths(fresh: Stream, key: &[u8], message: &[u8], every: bool) -> Tally {
-    let mut sum = Tally { runs: 0, differ: 0 };
-    let mut n: usize = 0;
-    while n < message.len() {
-        let more = of_message(fresh, key, front(message, n), every, sum);
-        sum = more;
-        n += 1;
+    fn count(&self, cuts: Cuts, tally: &mut Tally) {
+        let uncut = self.uncut();
+        match cuts {
+            Cuts::Once => {
+                for place in 0..=self.text.len() {
+                    tally.count(&uncut, &self.cut(Stops::At(place)));
+                }
+            }
+            Cuts::Always => tally.count(&uncut, &self.cut(Stops::Every)),
+        }
     }
-    of_message(fresh, key, message, every, sum)
-}
 
-fn message() -> [u8; 100] {
-    let mut m = [0u8; 100];
-    let mut i: usize = 0;
-    while i < 100 {
-        m[i] = ((7 * i + 3) % 256) as u8;
-        i += 1;
+    // The first n bytes of it.
+    fn front(&self, n: usize) -> Self {
+        Self {
+            fresh: self.fresh,
+            key: self.key,
+            text: front(self.text, n),
+        }
     }
-    m
-}
 
-fn tell(rt: &impl Print, t: Tally, words: &[u8]) {
-    number(rt, b"", t.runs);
-    say(rt, words);
-    number(rt, b", ", t.differ);
-    say(rt, b" differ; ");
-}
+    // Every front of it.
+    fn count_all(&self, cuts: Cuts) -> Tally {
+        let mut tally = Tally { runs: 0, differ: 0 };
+        for n in 0..=self.text.len() {
+            self.front(n).count(cuts, &mut tally);
+        }
+        tally
+    }
 
-// The record behind the whole message, and the last block of its answer.
-fn last(rt: &impl Print, fresh: Stream, message: &[u8]) {
-    let mut out = [238u8; 112];
-    let mut record = [0u8; 40];
-    let r = uncut(fresh, message, &mut out);
-    stream_record::lay_down(r.stream, &mut record);
-    number(rt, b"after ", message.len() as u64);
-    say(rt, b" bytes the record is ");
-    hex(rt, &record);
-    line(rt, b", the last block written ", &out[80..96]);
-}
+    // The record after the whole message, and the last block of its answer.
+    fn tell_end(&self, rt: &impl Print) {
+        if let Some(end) = self.uncut() {
+            let n = self.text.len();
+            say(
+                rt,
+                format_args!("after {n} bytes the record is {}", Hex(&end.record)),
+            );
+            line(
+                rt,
+                format_args!(", the last block written {}", Hex(&end.out[80..96])),
+            );
+        }
+    }
 
-fn tell_all(rt: &impl Print, fresh: Stream, key: &[u8], message: &[u8]) {
-    let once = of_all_lengths(fresh, key, message, false);
-    tell(rt, once, b" runs with one cut");
-    let always = of_all_lengths(fresh, key, message, true);
-    tell(rt, always, b" runs with a cut at every byte");
-    last(rt, fresh, message);
+    fn tell_all(&self, rt: &impl Print) {
+        self.count_all(Cuts::Once).tell(rt, "one cut");
+        self.count_all(Cuts::Always).tell(rt, "a cut at every byte");
+        self.tell_end(rt);
+    }
 }
 
 fn show(rt: &impl Print, cipher: u64, key: &[u8], direction: u64) {
-    number(rt, b"cipher ", cipher);
-    number(rt, b", a key of ", key.len() as u64);
-    number(rt, b" bytes, direction ", direction);
-    say(rt, b": ");
+    let length = key.len();
+    say(
+        rt,
+        format_args!("cipher {cipher}, a key of {length} bytes, direction {direction}: "),
+    );
     let made = cipher::set_up(cipher, key);
     let started = Stream::start(made.schedule, direction, b"the first block.");
-    let m = message();
-    tell_all(rt, started.stream, key, &m);
+    let text: [u8; 100] = array::from_fn(|i| ((7 * i + 3) % 256) as u8);
+    let message = Message {
+        fresh: started.stream,
+        key,
+        text: &text,
+    };
+    message.tell_all(rt);
 }
 
 fn both_ways(rt: &impl Print, cipher: u64, key: &[u8]) {
@@ -235,9 +235,10 @@ fn both_ways(rt: &impl Print, cipher: u64, key: &[u8]) {
 }
 
 fn three_lengths(rt: &impl Print, cipher: u64) {
-    both_ways(rt, cipher, b"0123456789abcdef");
-    both_ways(rt, cipher, b"0123456789abcdefghijklmn");
-    both_ways(rt, cipher, b"0123456789abcdefghijklmnopqrstuv");
+    let key = *b"0123456789abcdefghijklmnopqrstuv";
+    both_ways(rt, cipher, &key[..16]);
+    both_ways(rt, cipher, &key[..24]);
+    both_ways(rt, cipher, &key);
 }
 
 fn main(rt: HostRuntime) {

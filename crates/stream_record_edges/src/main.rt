@@ -1,235 +1,204 @@
 // The edge cases of 02, request 5, for every cipher, run and shown: each call with its answer, and what it returns and leaves.
 #![tactic(auto)]
 
+ghost use Rattle.std.specs.Prelude.{◌<◌};
+
 use cipher::Schedule;
-use edge_words::{front, hex, line, number, say};
+use edge_words::{Hex, front, line, say};
+use refusals::number;
 use stream::Stream;
 
 // ---- the calls, shown
-fn laid(rt: &impl Print, answer: u8, out: &[u8]) {
-    number(rt, b": answer ", answer as u64);
-    line(rt, b", output ", out);
-}
-
-// Laid down in 40 bytes of room. The record.
-fn lay(rt: &impl Print, call: &[u8], stream: Stream) -> [u8; 40] {
-    let mut out = [238u8; 40];
-    say(rt, call);
-    laid(rt, stream_record::lay_down(stream, &mut out), &out);
+// Laid down in so many bytes of room. The output, which is the record where there are 40.
+fn lay<const ROOM: usize>(rt: &impl Print, call: &str, stream: Stream) -> [u8; ROOM] {
+    let mut out = [238u8; ROOM];
+    let answer = number(stream_record::lay_down(stream, &mut out));
+    line(
+        rt,
+        format_args!("  {call}: answer {answer}, output {}", Hex(&out)),
+    );
     out
-}
-
-fn lay_in_39(rt: &impl Print, call: &[u8], stream: Stream) {
-    let mut out = [238u8; 39];
-    say(rt, call);
-    laid(rt, stream_record::lay_down(stream, &mut out), &out);
-}
-
-fn lay_in_41(rt: &impl Print, call: &[u8], stream: Stream) {
-    let mut out = [238u8; 41];
-    say(rt, call);
-    laid(rt, stream_record::lay_down(stream, &mut out), &out);
 }
 
 // A stream but for its schedule.
 fn show(rt: &impl Print, stream: Stream) {
-    let chain = stream.chain;
-    let held = stream.held;
-    number(rt, b", direction ", stream.direction as u64);
-    number(rt, b", count ", stream.count);
-    say(rt, b", chain ");
-    hex(rt, &chain);
-    say(rt, b", held ");
-    hex(rt, &held);
-    if stream.closed {
-        say(rt, b", closed\n");
-    } else {
-        say(rt, b", open\n");
-    }
+    let direction = stream.direction;
+    let count = stream.count;
+    say(
+        rt,
+        format_args!(
+            ", direction {direction}, count {count}, chain {}",
+            Hex(&stream.chain)
+        ),
+    );
+    let state = if stream.closed { "closed" } else { "open" };
+    line(rt, format_args!(", held {}, {state}", Hex(&stream.held)));
 }
 
-fn take_up(rt: &impl Print, call: &[u8], schedule: Schedule, record: &[u8]) -> Stream {
-    say(rt, call);
+fn take_up(rt: &impl Print, call: &str, schedule: Schedule, record: &[u8]) -> Stream {
     let taken = stream_record::take_up(schedule, record);
-    number(rt, b": answer ", taken.answer as u64);
+    say(
+        rt,
+        format_args!("  {call}: answer {}", number(taken.answer)),
+    );
     show(rt, taken.stream);
     taken.stream
 }
 
 // A piece of one byte, into 16 bytes of room.
-fn piece(rt: &impl Print, call: &[u8], stream: Stream) {
+fn piece(rt: &impl Print, call: &str, stream: Stream) {
     let mut out = [238u8; 16];
-    say(rt, call);
-    let f = stream.feed(b"t", &mut out);
-    number(rt, b": answer ", f.answer as u64);
-    number(rt, b", writes ", f.written);
-    line(rt, b", output ", &out);
+    let fed = stream.feed(b"t", &mut out);
+    let answer = number(fed.answer);
+    let written = fed.written;
+    line(
+        rt,
+        format_args!(
+            "  {call}: answer {answer}, writes {written}, output {}",
+            Hex(&out)
+        ),
+    );
+}
+
+// ---- a record, and the schedule that it is taken up under
+#[derive(Clone, Copy)]
+struct Laid {
+    schedule: Schedule,
+    record: [u8; 40],
+}
+
+impl Laid {
+    fn take_up(&self, rt: &impl Print, call: &str) -> Stream {
+        take_up(rt, call, self.schedule, &self.record)
+    }
+
+    // One byte is another.
+    fn with(&self, at: usize, byte: u8) -> Self
+        requires { at < 40 }
+    {
+        let mut record = self.record;
+        record[at] = byte;
+        Self {
+            schedule: self.schedule,
+            record,
+        }
+    }
 }
 
 // ---- laid down and taken up again
 fn rooms(rt: &impl Print, half_read: Stream) {
-    lay_in_39(rt, b"  31 bytes fed, laid down in 39 of room", half_read);
-    lay_in_41(rt, b"  then in 41 of room", half_read);
+    lay::<39>(rt, "31 bytes fed, laid down in 39 of room", half_read);
+    lay::<41>(rt, "then in 41 of room", half_read);
 }
 
-fn again(rt: &impl Print, schedule: Schedule, half_read: Stream, record: &[u8]) {
-    let taken = take_up(rt, b"  taken up", schedule, record);
-    piece(rt, b"  then a piece of 1", taken);
-    piece(
-        rt,
-        b"  the stream that was laid down, a piece of 1",
-        half_read,
-    );
+fn again(rt: &impl Print, half_read: Stream, laid: &Laid) {
+    let taken = laid.take_up(rt, "taken up");
+    piece(rt, "then a piece of 1", taken);
+    piece(rt, "the stream that was laid down, a piece of 1", half_read);
 }
 
 fn other_schedules(rt: &impl Print, cipher: u64, record: &[u8]) {
     let made = cipher::set_up(cipher, b"fedcba9876543210");
-    let taken = take_up(rt, b"  taken up under another key", made.schedule, record);
-    piece(rt, b"  then a piece of 1", taken);
+    let taken = take_up(rt, "taken up under another key", made.schedule, record);
+    piece(rt, "then a piece of 1", taken);
     let zeros = cipher::no_schedule();
-    take_up(rt, b"  taken up under a schedule of zeros", zeros, record);
-    take_up(rt, b"  no bytes under a schedule of zeros", zeros, b"");
+    take_up(rt, "taken up under a schedule of zeros", zeros, record);
+    take_up(rt, "no bytes under a schedule of zeros", zeros, b"");
 }
 
 // ---- records that aren't the stream's
-fn byte_at(record: [u8; 40], i: usize) -> u8 {
-    if i < 40 { record[i] } else { 0 }
+fn lengths(rt: &impl Print, laid: &Laid) {
+    let mut bytes = [0u8; 44];
+    bytes[..40].copy_from_slice(&laid.record);
+    take_up(rt, "no bytes", laid.schedule, b"");
+    take_up(rt, "39 bytes", laid.schedule, front(&bytes, 39));
+    take_up(rt, "41 bytes", laid.schedule, front(&bytes, 41));
+    take_up(rt, "44 bytes", laid.schedule, &bytes);
 }
 
-// The record, and zeros behind it.
-fn longer(record: [u8; 40]) -> [u8; 44] {
-    let mut all = [0u8; 44];
-    let mut i: usize = 0;
-    while i < 44 {
-        all[i] = byte_at(record, i);
-        i += 1;
-    }
-    all
-}
-
-// The bytes are those of the record and more.
-fn lengths(rt: &impl Print, schedule: Schedule, bytes: &[u8]) {
-    take_up(rt, b"  no bytes", schedule, front(bytes, 0));
-    take_up(rt, b"  39 bytes", schedule, front(bytes, 39));
-    take_up(rt, b"  41 bytes", schedule, front(bytes, 41));
-    take_up(rt, b"  44 bytes", schedule, bytes);
-}
-
-fn with(record: [u8; 40], at: usize, byte: u8) -> [u8; 40] {
-    let mut other = record;
-    if at < 40 {
-        other[at] = byte;
-    }
-    other
-}
-
-fn changed(
-    rt: &impl Print,
-    call: &[u8],
-    schedule: Schedule,
-    record: [u8; 40],
-    at: usize,
-    byte: u8,
-) {
-    let other = with(record, at, byte);
-    take_up(rt, call, schedule, &other);
-}
-
-fn ciphers(rt: &impl Print, cipher: u64, schedule: Schedule, record: [u8; 40]) {
+fn ciphers(rt: &impl Print, cipher: u64, laid: &Laid) {
     let another = (cipher % 4 + 1) as u8;
-    changed(rt, b"  cipher 0", schedule, record, 0, 0);
-    changed(rt, b"  cipher 5", schedule, record, 0, 5);
-    changed(rt, b"  another cipher", schedule, record, 0, another);
-    changed(
-        rt,
-        b"  another cipher, and direction 3",
-        schedule,
-        with(record, 0, another),
-        2,
-        3,
-    );
-    changed(rt, b"  a key length of 15", schedule, record, 1, 15);
-    changed(rt, b"  a key length of 24", schedule, record, 1, 24);
-    changed(rt, b"  a key length of 32", schedule, record, 1, 32);
+    laid.with(0, 0).take_up(rt, "cipher 0");
+    laid.with(0, 5).take_up(rt, "cipher 5");
+    let other = laid.with(0, another);
+    other.take_up(rt, "another cipher");
+    other
+        .with(2, 3)
+        .take_up(rt, "another cipher, and direction 3");
+    laid.with(1, 15).take_up(rt, "a key length of 15");
+    laid.with(1, 24).take_up(rt, "a key length of 24");
+    laid.with(1, 32).take_up(rt, "a key length of 32");
 }
 
-fn fields(rt: &impl Print, schedule: Schedule, record: [u8; 40]) {
-    changed(rt, b"  direction 0", schedule, record, 2, 0);
-    changed(rt, b"  direction 2", schedule, record, 2, 2);
-    changed(rt, b"  direction 3", schedule, record, 2, 3);
-    changed(rt, b"  closed, with 15 bytes held", schedule, record, 3, 1);
-    changed(rt, b"  a closed byte of 2", schedule, record, 3, 2);
-    changed(rt, b"  a count of 30", schedule, record, 7, 30);
-    changed(rt, b"  a count of 16777247", schedule, record, 4, 1);
-    changed(rt, b"  the last held byte 1", schedule, record, 39, 1);
+fn fields(rt: &impl Print, laid: &Laid) {
+    laid.with(2, 0).take_up(rt, "direction 0");
+    laid.with(2, 2).take_up(rt, "direction 2");
+    laid.with(2, 3).take_up(rt, "direction 3");
+    laid.with(3, 1).take_up(rt, "closed, with 15 bytes held");
+    laid.with(3, 2).take_up(rt, "a closed byte of 2");
+    laid.with(7, 30).take_up(rt, "a count of 30");
+    laid.with(4, 1).take_up(rt, "a count of 16777247");
+    laid.with(39, 1).take_up(rt, "the last held byte 1");
 }
 
 // ---- closed, and at the limit
-fn closed(rt: &impl Print, schedule: Schedule, half_read: Stream) -> [u8; 40] {
+fn closed(rt: &impl Print, schedule: Schedule, half_read: Stream) -> Laid {
     let mut out = [238u8; 16];
     let whole = half_read.feed(b"t", &mut out);
     let done = whole.next.finish();
-    let record = lay(rt, b"  32 bytes and finish, laid down", done.next);
-    let taken = take_up(rt, b"  taken up", schedule, &record);
-    piece(rt, b"  then a piece of 1", taken);
-    record
+    let record = lay::<40>(rt, "32 bytes and finish, laid down", done.next);
+    let laid = Laid { schedule, record };
+    let taken = laid.take_up(rt, "taken up");
+    piece(rt, "then a piece of 1", taken);
+    laid
 }
 
-fn limit(rt: &impl Print, schedule: Schedule, record: [u8; 40]) {
-    let open = with(record, 3, 0);
-    let full = with(with(open, 5, 16), 7, 0);
-    let taken = take_up(rt, b"  a count of 1048576", schedule, &full);
-    piece(rt, b"  then a piece of 1", taken);
-    changed(rt, b"  a count of 1048577", schedule, full, 7, 1);
+fn limit(rt: &impl Print, laid: &Laid) {
+    let full = laid.with(3, 0).with(5, 16).with(7, 0);
+    let taken = full.take_up(rt, "a count of 1048576");
+    piece(rt, "then a piece of 1", taken);
+    full.with(7, 1).take_up(rt, "a count of 1048577");
 }
 
 fn half_read(fresh: Stream) -> Stream {
     let mut out = [238u8; 16];
-    let f = fresh.feed(b"the message of thirty-one bytes", &mut out);
-    f.next
+    fresh
+        .feed(b"the message of thirty-one bytes", &mut out)
+        .next
 }
 
 fn start(schedule: Schedule) -> Stream {
-    let begun = Stream::start(schedule, 1, b"the first block.");
-    begun.stream
-}
-
-fn quiet(stream: Stream) -> [u8; 40] {
-    let mut out = [0u8; 40];
-    stream_record::lay_down(stream, &mut out);
-    out
+    Stream::start(schedule, 1, b"the first block.").stream
 }
 
 fn of_half_read(rt: &impl Print, cipher: u64, schedule: Schedule, stream: Stream) {
     rooms(rt, stream);
-    let record = quiet(stream);
-    again(rt, schedule, stream, &record);
+    let mut record = [0u8; 40];
+    let _ = stream_record::lay_down(stream, &mut record);
+    let laid = Laid { schedule, record };
+    again(rt, stream, &laid);
     other_schedules(rt, cipher, &record);
-    let bytes = longer(record);
-    lengths(rt, schedule, &bytes);
-    ciphers(rt, cipher, schedule, record);
-    fields(rt, schedule, record);
-    let ended = closed(rt, schedule, stream);
-    limit(rt, schedule, ended);
+    lengths(rt, &laid);
+    ciphers(rt, cipher, &laid);
+    fields(rt, &laid);
+    limit(rt, &closed(rt, schedule, stream));
 }
 
 fn cases(rt: &impl Print, cipher: u64) {
-    number(rt, b"cipher ", cipher);
-    say(rt, b"\n");
-    lay(
+    line(rt, format_args!("cipher {cipher}"));
+    lay::<40>(
         rt,
-        b"  a stream of zeros laid down",
+        "a stream of zeros laid down",
         start(cipher::no_schedule()),
     );
     let made = cipher::set_up(cipher, b"0123456789abcdef");
     let fresh = start(made.schedule);
-    lay(rt, b"  a fresh stream laid down", fresh);
+    lay::<40>(rt, "a fresh stream laid down", fresh);
     of_half_read(rt, cipher, made.schedule, half_read(fresh));
 }
 
 fn main(rt: HostRuntime) {
-    cases(&rt, 1);
-    cases(&rt, 2);
-    cases(&rt, 3);
-    cases(&rt, 4);
+    for cipher in 1..=4 {
+        cases(&rt, cipher);
+    }
 }

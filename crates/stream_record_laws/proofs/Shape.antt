@@ -18,7 +18,7 @@ use Rattle.cipher.specs.Schedule.{enciphered}
 use Rattle.stream.specs.State.{at_hand, bad_state}
 use Rattle.stream.specs.Calls.{made, piece_refusal, fed, feed, closed_stream, finish_refusal, finished_as, finish}
 use Rattle.stream.specs.declared.Stream.{Stream}
-use Rattle.stream.specs.declared.Fed.{Fed}
+use Rattle.stream.specs.Numbered.{Fed}
 use Rattle.stream.proofs.Outcomes.{good}
 use Rattle.demands.specs.Demand3.{Call, next}
 use Rattle.demands.specs.Demand3.Call.{piece, end}

@@ -21,7 +21,7 @@ use Rattle.cipher.proofs.Answers.{good_length}
 use Rattle.stream.specs.State.{stream_of, bad_state, zero_stream}
 use Rattle.stream.specs.Calls.{started_as}
 use Rattle.stream.specs.declared.Stream.{Stream}
-use Rattle.stream.specs.declared.Started.{Started}
+use Rattle.stream.specs.Numbered.{Started}
 use Rattle.stream.proofs.Outcomes.{good, direction_small}
 use Rattle.stream_layout.specs.Layout as layout
 use Rattle.stream_layout.specs.Layout.{Place, record_length, laid, spelt, at}

@@ -8,7 +8,7 @@ use Rattle.cipher.specs.declared.Schedule.{Schedule}
 use Rattle.refusals.specs.Refusals as refusal
 use Rattle.stream.specs.Calls.{feed, finish}
 use Rattle.stream.specs.declared.Stream.{Stream}
-use Rattle.stream.specs.declared.Started.{Started}
+use Rattle.stream.specs.Numbered.{Started}
 use Rattle.demands.specs.Demand3.{Call, next, accepted, written, after, accepted_bytes, written_bytes, CutAnywhere}
 use Rattle.demands.specs.Demand3.Call.{piece, end}
 use Rattle.stream_layout.specs.Layout.{record_length}

@@ -2,13 +2,14 @@
 use mathlib.Core.Path.{◌≡◌, refl, sym, ap, ◌∙◌}
 use mathlib.Core.Bool.{Bool, true, false}
 use mathlib.Core.List.{List, [], ◌∷◌, ◌++◌, append_assoc, append-nil}
-use Prim.Native.Nat.{ℕ, suc, ◌+◌, min, ◌≤◌, ◌<◌}
+use Prim.Native.Nat.{ℕ, suc, ◌+◌, ◌-◌, min, ◌≤◌, ◌<◌}
 use native.Mathlib.Omega.{arith}
 use native.Mathlib.Numerals.{add-one}
 use lib.Dec.{leb}
-use lib.ListN.{length, take, drop, set, get_or, drop_of_length-le, length-set, length-append, take-append-drop}
-use lib.Seq.{take_all, take-length, take-append_seam, take-append-le, take-take, take-suc-set, drop-set-lt, drop-cons, append_snoc}
+use lib.ListN.{length, take, drop, set, length-set, length-append, length-drop, take-append-drop}
+use lib.Seq.{take_all, take-length, take-append_seam, take-append-le, take-append-add, drop-drop, drop-length, length-take-le, take-take, take-suc-set, drop-set-lt, append_snoc}
 use borrow.Author.Tests.{leb-true, leb-false}
+use borrow.Rule.Slice.PartMut.{put_mid}
 use Rattle.wording.specs.Laid.{laid, behind, Puts}
 
 -- ---- one text
@@ -42,6 +43,38 @@ length-laid (c ∷ text) out at = go (leb (length out) at) refl (length-laid tex
         → length (laid out at (c ∷ text)) ≡ length out
     go true e m = ap length (no_room_lem out at (c ∷ text) (leb-true (length out) at e))
     go false e m = ap length (sym (one_laid out at c text (leb-false (length out) at e))) ∙ m ∙ length-set out at c
+
+-- a text cut to the room behind a place
+pub cut_laid : (out : List ℕ) (at : ℕ) (text : List ℕ) (n : ℕ) (ys : List ℕ) → at ≤ length out → n ≡ min (length text) (length out - at) → ys ≡ take n text
+    → put_mid at (at + n - at) out ys ≡ laid out at text
+unfolding laid
+cut_laid out at text n ys h e y = go (leb (length text) (length out - at)) refl
+  where
+    rest : drop (at + n - at) (drop at out) ≡ drop (at + n) out
+    rest = drop-drop (at + n - at) at out ∙ ap (λ (k : ℕ). drop k out) (omega arith)
+
+    front : length (take at out) ≡ at
+    front = length-take-le at out h
+
+    go : (b : Bool) → leb (length text) (length out - at) ≡ b → put_mid at (at + n - at) out ys ≡ take (length out) (take at out ++ text ++ drop (at + length text) out)
+    go true t =
+        let f = leb-true (length text) (length out - at) t in
+        let w = front in
+        let m : n ≡ length text = omega arith in
+        let long : length (take at out ++ text ++ drop (at + length text) out) ≤ length out
+        = simp (length-append, length-drop) (omega arith) in
+        rw (rest, y, m, take_all (length text) text (omega arith), ← append_assoc (take at out) text (drop (at + length text) out))
+        (sym (take_all (length out) (take at out ++ text ++ drop (at + length text) out) long))
+    go false t =
+        let f = leb-false (length text) (length out - at) t in
+        let w = front in
+        let m : at + n ≡ length out = omega arith in
+        let k : length out ≡ length (take at out) + n = omega arith in
+        rw (rest, y, m, drop-length out)
+        (ap (λ (l : List ℕ). take at out ++ l) (append-nil (take n text) ∙ sym (take-append-le n text (drop (at + length text) out) (omega arith)))
+        ∙ sym (take-append-add (take at out) (text ++ drop (at + length text) out) n)
+        ∙ ap (λ (l : List ℕ). take (length (take at out) + n) l) (sym (append_assoc (take at out) text (drop (at + length text) out)))
+        ∙ ap (λ (i : ℕ). take i (take at out ++ text ++ drop (at + length text) out)) (sym k))
 
 -- ---- the place behind it
 module _ (out : List ℕ) (at : ℕ) (text : List ℕ) where
@@ -112,47 +145,6 @@ pub puts_nothing : (out : List ℕ) (at : ℕ) → at ≤ length out → Puts []
 puts_nothing out at h =
     let n : at ≡ at + length {A = ℕ} [] = omega arith in
     record { leaves = sym (nothing_laid out at); place = n ∙ behind-text out at [] (omega arith) }
-
--- nothing put behind its end
-pub puts_outside : (text out : List ℕ) (at : ℕ) → length out ≤ at → Puts text out at out (length out)
-puts_outside text out at h =
-    record { leaves = sym (no_room_lem out at text h); place = behind_all out at text (omega arith) }
-
--- the place handed back lies within the space
-pub puts_within : {text out : List ℕ} {at : ℕ} {exit : List ℕ} {r : ℕ} → Puts text out at exit r → r ≤ length exit
-unfolding behind
-puts_within {text} {out} {at} x =
-    let p = x.place in
-    let e = ap length x.leaves ∙ length-laid text out at in
-    omega arith
-
--- ---- a text laid up to its character i
-module _ (out : List ℕ) (to : ℕ) (text : List ℕ) (i : ℕ) where
-  pub next_laid : to < length out → i < length text → laid (set out to (get_or text i 0)) (to + 1) (drop (i + 1) text) ≡ laid out to (drop i text)
-  next_laid h k =
-      rw (add-one i) (one_laid out to (get_or text i 0) (drop (suc i) text) h ∙ ap (laid out to) (sym (drop-cons text i 0 k)))
-
-module _ (text out : List ℕ) (at : ℕ) (now : List ℕ) (to i : ℕ) (n : length now ≡ length out) (p : to ≡ at + i)
-    (l : laid now to (drop i text) ≡ laid out at text) where
-  pub puts_cut : i < length text → length now ≤ to → Puts text out at now (length now)
-  puts_cut k h = record { leaves = sym (no_room_lem now to (drop i text) h) ∙ l; place = n ∙ behind_all out at text (omega arith) }
-
-  pub puts_whole : i ≡ length text → to ≤ length out → Puts text out at now to
-  puts_whole k h =
-      let d = drop_of_length-le text {i = i} (omega arith) in
-      let e : to ≡ at + length text = omega arith in
-      record { leaves = sym (nothing_laid now to) ∙ ap (laid now to) (sym d) ∙ l; place = e ∙ behind-text out at text (omega arith) }
-
--- ---- a text of which only the rest is still to be put: where the rest is put, the whole is
-abbrev pub Left : (whole : List ℕ) → List ℕ → ℕ → (rest : List ℕ) → List ℕ → ℕ → Type 0
-Left whole out at rest now to = (exit : List ℕ) (r : ℕ) → Puts rest now to exit r → Puts whole out at exit r
-
-module _ {whole out : List ℕ} {at : ℕ} {rest now : List ℕ} {to : ℕ} (l : Left whole out at rest now to) where
-  pub left_on : {a b next : List ℕ} {p : ℕ} → a ++ b ≡ rest → Puts a now to next p → Left whole out at b next p
-  left_on e x = λ exit r y. l exit r (puts_as e (puts_on x y))
-
-  pub left_none : rest ≡ [] → to ≤ length now → Puts whole out at now to
-  left_none e h = l now to (puts_as (sym e) (puts_nothing now to h))
 
 -- ---- a text put at the front of a space stands there, as far as there is room
 pub front_laid : (out text : List ℕ) → take (behind out 0 text) (laid out 0 text) ≡ take (length out) text

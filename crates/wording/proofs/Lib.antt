@@ -1,3 +1,4 @@
 pub mod Laying
 pub mod Digits
 pub mod Filling
+pub mod Adding

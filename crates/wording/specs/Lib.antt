@@ -2,3 +2,4 @@
 pub mod Laid
 pub mod Numbers
 pub mod Filled
+pub mod Added

@@ -1,101 +1,96 @@
-// A text put together at the front of a space. Each function puts something at a place and hands back the place behind
-// it; what has no room is left out, and the place is then the end of the space.
+// A text put together in a fixed space. What has no room is left out, and the text then ends with the space.
 #![tactic(auto)]
 
-ghost use Rattle.std.specs.Prelude.{◌≡◌, take, get_or};
-ghost use Rattle.wording.specs.Laid.{Puts};
+ghost use Rattle.std.specs.Prelude.{◌≡◌, ◌≤◌, length, take, min};
 ghost use Rattle.wording.specs.Numbers.{decimal, in_tenths};
 ghost use Rattle.wording.specs.Filled.{stands_for, uses, filled};
 
-pub fn words(out: &mut [u8], at: usize, text: &[u8]) -> usize
-    ensures { Puts text.now out.old at out.new result }
-{
-    if at > out.len() {
-        return out.len();
+#[derive(Drop)]
+pub struct Text<'a> {
+    space: &'a mut [u8],
+    len: usize,
+    ghost fits: { len ≤ length space.now },
+}
+
+impl<'a> Text<'a> {
+    ghost use Rattle.wording.specs.Added.{Begins, Adds};
+
+    // An empty text, at the front of a space.
+    pub fn new(space: &'a mut [u8]) -> Text<'a>
+        ensures { Begins space.entry 0 result }
+    {
+        Text::after(space, 0)
     }
-    let mut to = at;
-    let mut i: usize = 0;
-    while i < text.len() {
-        if to >= out.len() {
-            return out.len();
+
+    // A text that goes on from a place of a space, or from its end.
+    pub fn after(space: &'a mut [u8], at: usize) -> Text<'a>
+        ensures { Begins space.entry at result }
+    {
+        let len = at.min(space.len());
+        Text { space, len }
+    }
+
+    pub fn words(&mut self, text: &[u8])
+        ensures { Adds text.now self.old self.new }
+    {
+        let n = text.len().min(self.space.len() - self.len);
+        let end = self.len + n;
+        self.space[self.len..end].copy_from_slice(&text[..n]);
+        self.len = end;
+    }
+
+    pub fn number(&mut self, n: u64)
+        ensures { Adds (decimal n) self.old self.new }
+    {
+        let mut digits = [0u8; 20];
+        let k = io::decimal(n, &mut digits);
+        self.words(&digits[..k]);
+    }
+
+    // A number of tenths, with one decimal place.
+    pub fn tenths(&mut self, n: u64)
+        ensures { Adds (in_tenths n) self.old self.new }
+    {
+        self.number(n / 10);
+        self.words(b".");
+        self.number(n % 10);
+    }
+
+    fn character(&mut self, c: u8, n: u64)
+        ensures { Adds (stands_for n c) self.old self.new }
+    {
+        match c {
+            b'$' => self.number(n),
+            b'~' => self.tenths(n),
+            _ => self.words(&[c]),
         }
-        out[to] = text[i];
-        to += 1;
-        i += 1;
     }
-    to
-}
 
-pub fn number(out: &mut [u8], at: usize, n: u64) -> usize
-    ensures { Puts (decimal n) out.old at out.new result }
-{
-    let mut text = [0u8; 20];
-    let k = io::decimal(n, &mut text);
-    words(out, at, &text[..k])
-}
+    // Words with numbers among them: `$` stands for the next one, `~` for the next one as tenths.
+    pub fn fill(&mut self, text: &[u8], numbers: &[u64])
+        ensures { Adds (filled text.now numbers.now) self.old self.new }
+    {
+        let mut k: usize = 0;
+        for c in text {
+            self.character(*c, numbers.get(k).copied().unwrap_or(0));
+            k += uses(*c);
+        }
+    }
 
-// A number of tenths, with one decimal place.
-pub fn tenths(out: &mut [u8], at: usize, n: u64) -> usize
-    ensures { Puts (in_tenths n) out.old at out.new result }
-{
-    let whole = number(out, at, n / 10);
-    let point = words(out, whole, b".");
-    number(out, point, n % 10)
-}
-
-fn character(out: &mut [u8], at: usize, c: u8, n: u64) -> usize
-    ensures { Puts (stands_for n c) out.old at out.new result }
-{
-    match c {
-        b'$' => number(out, at, n),
-        b'~' => tenths(out, at, n),
-        _ => words(out, at, &[c]),
+    // What was written.
+    pub fn written(&self) -> &[u8]
+        ensures { result.now ≡ take self.now.len self.now.space.now }
+    {
+        &self.space[..self.len]
     }
 }
 
-fn nth(numbers: &[u64], k: usize) -> u64
-    ensures { result ≡ get_or numbers.now k 0 }
-{
-    if k < numbers.len() {
-        return numbers[k];
-    }
-    0
-}
-
-fn is_number(c: u8) -> usize
+// How many numbers a character uses up.
+fn uses(c: u8) -> usize
     ensures { result ≡ uses c }
 {
     match c {
         b'$' | b'~' => 1,
         _ => 0,
     }
-}
-
-// Words with numbers among them: `$` stands for the next one, `~` for the next one as tenths.
-pub fn fill(out: &mut [u8], at: usize, text: &[u8], numbers: &[u64]) -> usize
-    ensures { Puts (filled text.now numbers.now) out.old at out.new result }
-{
-    if at > out.len() {
-        return out.len();
-    }
-    let mut to = at;
-    let mut k: usize = 0;
-    let mut i: usize = 0;
-    while i < text.len() {
-        let c = text[i];
-        i += 1;
-        to = character(out, to, c, nth(numbers, k));
-        k += is_number(c);
-    }
-    to
-}
-
-// What stands in front of a place, or all.
-pub fn front(out: &[u8], at: usize) -> &[u8]
-    ensures { result.now ≡ take at out.now }
-{
-    if at <= out.len() {
-        return &out[..at];
-    }
-    out
 }

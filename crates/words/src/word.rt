@@ -8,10 +8,11 @@ ghost use Rattle.words.specs.Word.{WordOf, WordFrom, with_word};
 pub fn word(a: u8, b: u8, c: u8, d: u8) -> u32
     ensures { WordOf a b c d result }
 {
-    (a as u32) * 16777216 + (b as u32) * 65536 + (c as u32) * 256 + (d as u32)
+    u32::from_be_bytes([a, b, c, d])
 }
 
-// The highest byte of a word.
+// The highest byte of a word. (Four functions: of one with the place as a const parameter each contract would say a
+// difference of powers instead of its own, which is no plainer.)
 pub fn byte0(w: u32) -> u8
     ensures { result ≡ w / 2 ^ 24 }
 {
@@ -43,7 +44,7 @@ pub fn byte3(w: u32) -> u8
 pub fn bytes(w: u32) -> [u8; 4]
     ensures { result ≡ bytes_of (w ∷ []) }
 {
-    [byte0(w), byte1(w), byte2(w), byte3(w)]
+    w.to_be_bytes()
 }
 
 // The word of the four bytes from a place on.
@@ -51,7 +52,7 @@ pub fn word_at(bytes: &[u8], at: usize) -> u32
     requires { at + 4 ≤ length bytes.now }
     ensures { WordFrom bytes.now at result }
 {
-    word(bytes[at], bytes[at + 1], bytes[at + 2], bytes[at + 3])
+    u32::from_be_bytes(runs::part(bytes, at))
 }
 
 // The bytes of a word, put in from a place on.
@@ -59,10 +60,7 @@ pub fn put(bytes: &mut [u8], at: usize, w: u32)
     requires { at + 4 ≤ length bytes.old }
     ensures { bytes.new ≡ with_word bytes.old at w }
 {
-    bytes[at] = byte0(w);
-    bytes[at + 1] = byte1(w);
-    bytes[at + 2] = byte2(w);
-    bytes[at + 3] = byte3(w);
+    runs::store(bytes, at, self::bytes(w));
 }
 
 // A word turned n places to the left.
@@ -70,5 +68,5 @@ pub fn rotated(x: u32, n: u32) -> u32
     requires { (0 < n) × (n < 32) }
     ensures { result ≡ rol 32 n x }
 {
-    (x << n) | (x >> (32 - n))
+    x.rotate_left(n)
 }

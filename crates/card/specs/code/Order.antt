@@ -1,7 +1,8 @@
 -- The keys of a good card, and a card judged by them.
-use Rattle.std.specs.Prelude.{◌≡◌, Bool, true, List, ℕ, ◌+◌, ◌/◌, ◌%◌, ◌≤◌, ◌<◌, length, get_or, take}
+use Rattle.std.specs.Prelude.{◌≡◌, Option, is_some, IfSome, List, ℕ, ◌+◌, ◌/◌, ◌%◌, ◌≤◌, ◌<◌, length, get_or, take}
 use Rattle.card_slots.specs.Card.{slot, good}
 use Rattle.card_keys.specs.code.Keys.{key_of}
+use Rattle.card_keys.specs.declared.Keys.{Keys}
 
 -- x is the key of a filled slot, whose number is its last byte
 pub record Key (card : List ℕ) (x : ℕ) : Type 0 where
@@ -17,8 +18,7 @@ pub record Ordered (card keys : List ℕ) : Type 0 where
   pub each : (u : ℕ) → u < length keys → Key card (get_or keys u 0)
   pub all : (i : ℕ) → i < length card / 16 → 256 ≤ key_of (slot card i) i → (u : ℕ) × (u < length keys) × (get_or keys u 0 ≡ key_of (slot card i) i)
 
--- a card judged: whether it is good, and if so the keys, the first n of `keys`
-pub record JudgesInOrder (card : List ℕ) (r : Bool) (n : ℕ) (keys : List ℕ) : Type 0 where
-  pub answered : r ≡ good card
-  pub few : n ≤ 256
-  pub ordered : r ≡ true → Ordered card (take n keys)
+-- a card judged: keys where it is good, and none else
+pub record JudgesInOrder (card : List ℕ) (r : Option Keys) : Type 0 where
+  pub answered : is_some r ≡ good card
+  pub ordered : IfSome r (λ k. Ordered card (take k.len k.places))

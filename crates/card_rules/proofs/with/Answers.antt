@@ -2,25 +2,25 @@ use mathlib.Core.Path.{refl}
 use native.Mathlib.Omega.{arith}
 use Rattle.card_rules.specs.Rules.{may_be}
 use Rattle.card_rules.specs.code.LegalElse.{all_may_be}
-use Rattle.card_rules.proofs.LegalElse.{recipe_decides, segment_decides, target_decides, none_decides}
+use Rattle.card_rules.proofs.LegalElse.{recipe_decides, segment_decides, target_decides, rate_decides, hold_decides}
 use Rattle.card_rules.proofs.with.Goals as goal
 
-pub returns-in-0 : goal.returns-in-0
+pub returns-in-Recipe : goal.returns-in-Recipe
 unfolding may_be
-returns-in-0 c = recipe_decides _ _ _ refl (omega arith) (omega arith) refl refl
+returns-in-Recipe c = rw c.in-Recipe.is (recipe_decides _ _ refl refl refl refl)
 
-pub returns-in-1 : goal.returns-in-1
+pub returns-in-Segment : goal.returns-in-Segment
 unfolding may_be
-returns-in-1 c = segment_decides _ _ _ refl (omega arith) c.byte.ensures refl refl
+returns-in-Segment c = rw c.in-Segment.is (segment_decides _ _ refl c.byte.ensures refl refl)
 
-pub returns-in-2 : goal.returns-in-2
+pub returns-in-Target : goal.returns-in-Target
 unfolding may_be
-returns-in-2 c = target_decides _ _ _ refl (omega arith) (omega arith) refl refl
+returns-in-Target c = rw c.in-Target.is (target_decides _ _ refl refl refl refl)
 
-pub returns-in-3 : goal.returns-in-3
+pub returns-in-Rate : goal.returns-in-Rate
 unfolding may_be all_may_be
-returns-in-3 c = none_decides _ _ _ refl (λ e. omega arith) (λ e. omega arith) (λ e. omega arith) (omega arith) refl
+returns-in-Rate c = rw c.in-Rate.is (rate_decides _ _ refl (omega arith) refl)
 
-pub returns-in_default : goal.returns-in_default
+pub returns-in-Hold : goal.returns-in-Hold
 unfolding may_be all_may_be
-returns-in_default c = none_decides _ _ _ refl (λ e. omega arith) (λ e. omega arith) (λ e. omega arith) (omega arith) refl
+returns-in-Hold c = rw c.in-Hold.is (hold_decides _ _ refl (omega arith) refl)

@@ -1,10 +1,9 @@
-use Prim.Native.Nat.{◌-◌}
-use lib.ListN.{length}
+use Rattle.std.proofs.Common.{length}
 use Rattle.cells.proofs.AllCells.{Counting}
 use Rattle.cells.proofs.count.Given as goal
 
-abbrev pub invariant-loop-c : goal.invariant-loop-c
-invariant-loop-c l = Counting l.line l.at l.cells l.good l.filled
+abbrev pub invariant-loop-cell : goal.invariant-loop-cell
+invariant-loop-cell l = Counting l.line l.rest l.cells l.filled
 
-abbrev pub decreases-loop-c : goal.decreases-loop-c
-decreases-loop-c l = length l.line - l.at
+abbrev pub decreases-loop-cell : goal.decreases-loop-cell
+decreases-loop-cell l = length l.rest

@@ -1,11 +1,11 @@
-use mathlib.Core.Path.{refl, sym, ◌∙◌}
-use Rattle.cells.proofs.OneCell.{ended_well, ended_badly}
+use Rattle.std.proofs.Common.{sym, ◌∙◌}
+use Rattle.cells.specs.Cells.{ended}
 use Rattle.cells.proofs.ended.Goals as goal
 
-pub returns-then-not-ends_at : goal.returns-then-not-ends_at
-returns-then-not-ends_at c = rw (ended_badly _ _ (sym c.ends_at.ensures ∙ c.if-not-ends_at.true)) c.out_of_place.ensures
+pub returns-then-ends : goal.returns-then-ends
+unfolding ended
+returns-then-ends c = rw (sym c.ends.ensures ∙ c.if-ends.true)
 
 pub returns : goal.returns
-returns c = let p = c.requires in
-    rw (ended_well _ _ (sym c.ends_at.ensures ∙ c.if-not-ends_at.false))
-    (record { ordered = p.0; within = p.1; behind = p.2; good = refl; cut = refl; left = refl })
+unfolding ended
+returns c = rw (sym c.ends.ensures ∙ c.if-ends.false)

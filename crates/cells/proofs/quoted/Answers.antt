@@ -1,45 +1,32 @@
-use mathlib.Core.Path.{◌≡◌, sym, ap, ◌∙◌}
-use mathlib.Core.List.{List}
-use Prim.Native.Nat.{ℕ, ◌+◌, ◌≤◌, ◌<◌}
-use native.Mathlib.Omega.{arith}
-use lib.ListN.{length, drop, length-drop}
-use Rattle.cells.specs.Cells.{in_quotes}
-use Rattle.cells.proofs.Texts.{quotes_within}
-use Rattle.cells.proofs.OneCell.{quoted_open, quoted_closed, blanks_behind}
+use Rattle.std.proofs.Common.{ℕ, length, take, drop, ap, ◌∙◌, subst, arith}
+use Rattle.std.proofs.lemmas.Slice.{between_to_end}
+use borrow.Author.Tests.{ltb-true}
+use Rattle.cells.specs.Cells.{Cell, behind_blanks, ended}
+use Rattle.cells.specs.code.Found.{Is}
+use Rattle.cells.proofs.Texts.{quotes_front}
+use Rattle.cells.proofs.OneCell.{quoted_closed, quoted_open}
 use Rattle.cells.proofs.quoted.Goals as goal
+use Rattle.cells.proofs.quoted.Goals.{in_default-via-then-closing-lt1, in_default-via-else-closing-lt1+in_default-1}
 
-quotes_length : (text s : List ℕ) (from n : ℕ) → s ≡ drop from text → n ≡ length (in_quotes s) → n ≡ length (in_quotes (drop from text))
-quotes_length text s from n e f = f ∙ ap (λ (l : List ℕ). length (in_quotes l)) e
+pub split_at-requires : goal.split_at-requires
+split_at-requires c = let f = (quotes_front c.args.text.now).1 in omega (arith, c.closing_quote.ensures)
 
-comma_within : (text s : List ℕ) (to m : ℕ) → to < length text → s ≡ drop (to + 1) text → m ≤ length s → to + 1 + m ≤ length text
-comma_within text s to m w e h =
-    let l = ap length e in
-    let d = length-drop (to + 1) text in
-    omega arith
+pub returns-in-34 : goal.returns-in-34
+returns-in-34 c =
+    let t = c.args.text.now in
+    let n = c.closing_quote.ensures in
+    let closing = c.split_at.result.1.now in
+    let inside = c.split_at.ensures.front ∙ ap (λ (k : ℕ). take k t) n ∙ (quotes_front t).0 in
+    let back = c.split_at.ensures.back ∙ ap (λ (k : ℕ). drop k t) n in
+    let rest = c.after_blanks.ensures ∙ ap behind_blanks (between_to_end closing 1 (length closing) (omega arith)) in
+    let P : Cell → Type 0 = λ x. Is x c.ended.result in
+    subst P (ap (ended c.split_at.result.0.now) rest ∙ quoted_closed t inside back (omega arith) (omega arith)) c.ended.ensures
 
-pub overflow_add-to : goal.overflow_add-to
-overflow_add-to c =
-    let text = c.args.text.now in
-    let from = c.args.from in
-    let n = c.closing_quote.result in
-    let w = quotes_within text from n c.requires (quotes_length text c.behind.result.now from n c.behind.ensures c.closing_quote.ensures) in
-    omega arith
-
-pub returns-then-not-has : goal.returns-then-not-has
-returns-then-not-has c =
-    let text = c.args.text.now in
-    let from = c.args.from in
-    let n = c.closing_quote.result in
-    let long = quotes_length text c.behind.result.now from n c.behind.ensures c.closing_quote.ensures in
-    rw (quoted_open text from (from + n) (ap (λ (i : ℕ). from + i) long) (sym c.has.ensures ∙ c.if-not-has.true)) c.out_of_place.ensures
-
-pub returns : goal.returns
-returns c =
-    let text = c.args.text.now in
-    let from = c.args.from in
-    let n = c.closing_quote.result in
-    let m = c.behind_blanks.result in
-    let long = quotes_length text c.behind.result.now from n c.behind.ensures c.closing_quote.ensures in
-    let closed = sym c.has.ensures ∙ c.if-not-has.false in
-    let blanks = blanks_behind text c.behind-2.result.now (from + n + 1) m c.behind-2.ensures c.behind_blanks.ensures.1 in
-    rw (quoted_closed text from (from + n) (from + n + 1 + m) (ap (λ (i : ℕ). from + i) long) closed blanks) c.ended.ensures
+pub returns-in_default : goal.returns-in_default
+returns-in_default c =
+    let t = c.args.text.now in
+    let n = c.closing_quote.ensures in
+    let inside = c.split_at.ensures.front ∙ ap (λ (k : ℕ). take k t) n ∙ (quotes_front t).0 in
+    let back = c.split_at.ensures.back ∙ ap (λ (k : ℕ). drop k t) n in
+    quoted_open t inside back
+    (λ a b. elim c.in_default.branch [ in_default-via-then-closing-lt1 w ↦ omega (arith, ltb-true) | in_default-via-else-closing-lt1+in_default-1 w ↦ omega arith ])

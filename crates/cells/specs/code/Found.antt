@@ -1,17 +1,14 @@
--- A cell by its places in a text, and what a line was found to hold.
-use Rattle.std.specs.Prelude.{◌≡◌, List, ℕ, ◌≤◌, length, drop}
-use Rattle.cells.specs.Cells.{between, all_good, any_filled}
+-- A cell as the code has it, and what a line was found to hold.
+use Rattle.std.specs.Prelude.{◌≡◌, true, Option, Some, None, List, length}
+use Rattle.cells.specs.Cells.{out_of_place, all_good, any_filled}
 use Rattle.cells.specs.declared.Cell.{Cell}
 use Rattle.cells.specs.declared.Line.{Line}
 use Rattle.cells.specs.Cells as page
 
-pub record Places (text : List ℕ) (c : page.Cell) (r : Cell) : Type 0 where
-  pub ordered : r.from ≤ r.to
-  pub within : r.to ≤ length text
-  pub behind : r.comma ≤ length text
-  pub good : r.good ≡ c.good
-  pub cut : between r.from r.to text ≡ c.text
-  pub left : drop r.comma text ≡ c.rest
+-- the cell, or none where a quote of it is out of place
+abbrev pub Is : page.Cell → Option Cell → Type 0
+Is c None = c ≡ out_of_place
+Is c (Some r) = c ≡ record { good = true; text = r.text.now; rest = r.rest.now }
 
 pub record Holds (cs : List page.Cell) (r : Line) : Type 0 where
   pub good : r.good ≡ all_good cs

@@ -4,4 +4,4 @@ use Rattle.cipher.proofs.block_refusal.Goals as goal
 
 pub returns : goal.returns
 unfolding block_refusal
-returns c = c.first.ensures ∙ rw c.bad_schedule.ensures
+returns c = c.first.ensures ∙ rw c.is_bad.ensures

@@ -7,7 +7,7 @@ use Rattle.e2_keys.proofs.k2.Goals as goal
 
 pub returns-then-key-lt24 : goal.returns-then-key-lt24
 returns-then-key-lt24 c = c.s-then-key-lt24-2.ensures ∙ ap S (c.s-then-key-lt24.ensures ∙ ap S (c.s.ensures ∙ ap S c.constant.ensures))
-    ∙ lacks_K2 c.args.key.now c.requires.key_length c.if-key-lt24.true
+    ∙ lacks_K2 c.args.key.now c.requires c.if-key-lt24.true
 
 pub returns : goal.returns
 returns c = c.load.ensures ∙ key-part c.args.key.now 16 (search rules)

@@ -15,17 +15,17 @@ padded n key =
 
 pub returns-then-key-eq16 : goal.returns-then-key-eq16
 unfolding padding padded
-returns-then-key-eq16 c = (λ i. record { z1 = c.eight-k1.ensures i; z2 = c.eight-k2.ensures i; z3 = c.eight-k1.ensures i; z4 = H3 ++ H2 })
+returns-then-key-eq16 c = (λ i. record { z1 = c.part-k1.ensures.placed i; z2 = c.part-k2.ensures.placed i; z3 = c.part-k1.ensures.placed i; z4 = H3 ++ H2 })
     ∙ ap (λ (n : ℕ). padded n c.args.key.now) (sym c.if-key-eq16.true)
 
 pub returns-then-key-eq24 : goal.returns-then-key-eq24
 unfolding padding padded
-returns-then-key-eq24 c = (λ i. record { z1 = c.eight-k1.ensures i; z2 = c.eight-k2.ensures i; z3 = c.eight-k3.ensures i; z4 = H2 ++ H3 })
+returns-then-key-eq24 c = (λ i. record { z1 = c.part-k1.ensures.placed i; z2 = c.part-k2.ensures.placed i; z3 = c.part-k3.ensures.placed i; z4 = H2 ++ H3 })
     ∙ ap (λ (n : ℕ). padded n c.args.key.now) (sym c.if-key-eq24.true)
 
 pub returns : goal.returns
 unfolding padding padded
 returns c = let key = c.args.key.now in
     let e : 32 ≡ length key = omega arith in
-    (λ i. record { z1 = c.eight-k1.ensures i; z2 = c.eight-k2.ensures i; z3 = c.eight-k3.ensures i; z4 = c.eight-k4.ensures i })
+    (λ i. record { z1 = c.part-k1.ensures.placed i; z2 = c.part-k2.ensures.placed i; z3 = c.part-k3.ensures.placed i; z4 = c.part-k4.ensures.placed i })
     ∙ ap (λ (n : ℕ). padded n key) e

@@ -7,4 +7,4 @@ pub returns-then-length-eq32 : goal.returns-then-length-eq32
 returns-then-length-eq32 c = ap t_turn (sym c.if-length-eq32.true)
 
 pub returns : goal.returns
-returns c = t_turn_early c.args.length c.requires c.if-length-eq32.false
+returns c = t_turn_early c.args.length.bytes c.args.length.legal c.if-length-eq32.false

@@ -1,21 +1,19 @@
--- `round_keys`. The loop's invariant: the first i bytes of the key, and zeros.
-use mathlib.Core.Path.{◌≡◌, refl, ◌∙◌}
-use borrow.Author.Rules.{rules}
-use Rattle.runs.proofs.Fill.{fill_next}
+-- `round_keys`: what has room of the key, and zeros.
+use mathlib.Core.Path.{◌≡◌, ap, ◌∙◌}
+use mathlib.Core.List.{List, ◌++◌}
+use Prim.Native.Nat.{ℕ, ◌≤◌, ◌<◌}
+use native.Mathlib.Omega.{arith}
+use lib.ListN.{length, take, drop, replicate}
+use Rattle.std.proofs.lemmas.List.{drop-replicate}
 use Rattle.noekeon.proofs.Padded.{padded}
 use Rattle.noekeon.proofs.round_keys.Goals as goal
 
-pub loop-i-init : goal.loop-i-init
-loop-i-init c = (search rules, refl)
-
-pub loop-i-preserved : goal.loop-i-preserved
-loop-i-preserved c = let loop = c.loop-i in
-    let key = c.args.key.now in
-    (search rules, rw loop.invariant.1 (fill_next 288 key loop.i _ (search rules) (search rules) refl))
-
 pub returns : goal.returns
-returns c = let loop = c.loop-i in
-    let taken = c.taken-n in
-    let key = c.args.key.now in
-    let e : loop.i ≡ taken.result = search rules in
-    loop.invariant.1 ∙ rw e (padded 288 key taken.result (search rules) (search rules) taken.ensures.2)
+returns c = let key = c.args.key.now in
+    let n = c.min-n.result in
+    let room : n ≤ 288 = omega arith in
+    let has : n ≤ length key = omega arith in
+    let whole : n < 288 → n ≡ length key = λ h. omega arith in
+    ap (λ (l : List ℕ). l ++ drop n (replicate 288 0)) c.copy_from_slice.ensures.after
+    ∙ ap (λ (l : List ℕ). take n key ++ l) (drop-replicate n 288 0)
+    ∙ padded 288 key n room has whole

@@ -10,6 +10,3 @@ use Rattle.runs.proofs.all_from.Given as goal
 -- all before i were this byte, and all from i on are
 abbrev pub invariant-loop-i : goal.invariant-loop-i
 invariant-loop-i l = choose (eqb l.any 0) (all l.byte (drop l.i l.bytes)) false ≡ all l.byte (drop l.from l.bytes)
-
-abbrev pub decreases-loop-i : goal.decreases-loop-i
-decreases-loop-i l = length l.bytes - l.i

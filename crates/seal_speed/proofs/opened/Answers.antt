@@ -1,7 +1,7 @@
 use mathlib.Core.Path.{ap, ◌∙◌}
-use Rattle.cipher.specs.declared.SetUp.{SetUp}
+use Rattle.cipher.specs.Numbered.{SetUp}
 use Rattle.seal.specs.Calls.{start}
-use Rattle.seal.specs.declared.Started.{Started}
+use Rattle.seal.specs.Numbered.{Started}
 use Rattle.seal_speed.specs.Works.{begun}
 use Rattle.seal_speed.proofs.opened.Goals as goal
 

@@ -5,9 +5,9 @@ use Prim.Native.Nat.{ℕ}
 use native.Mathlib.Omega.{arith}
 use Rattle.cipher.specs.Calls.{set_up}
 use Rattle.cipher.specs.Promises.{SetsUp}
-use Rattle.cipher.specs.declared.SetUp.{SetUp}
+use Rattle.cipher.specs.Numbered.{SetUp, in_numbers}
 use Rattle.sent_cards.specs.Sent.{sealed, sealed_by}
-use Rattle.sent_cards.proofs.First.{first_here, first_later, first_none}
+use Rattle.sent_cards.proofs.First.{first_here, first_later}
 use Rattle.sent_cards.proofs.sealed_by.Goals as goal
 
 abbrev isSealed : (key file : List ℕ) → ℕ → Bool
@@ -19,32 +19,23 @@ said key file c made b m e = ap (λ (r : SetUp). sealed r.schedule file) (sym m.
 
 pub loop-number-init : goal.loop-number-init
 unfolding sealed_by
-loop-number-init c = (omega arith, omega arith, omega arith, refl)
-
-pub is_sealed-requires : goal.is_sealed-requires
-is_sealed-requires c = (omega arith, omega arith)
+loop-number-init c = (omega arith, omega arith, refl)
 
 pub returns-then-is_sealed : goal.returns-then-is_sealed
 returns-then-is_sealed c =
     let a = c.args in
-    first_here (isSealed a.key.now a.file.now) c.loop-number.number 10 (omega arith)
-    (said a.key.now a.file.now c.loop-number.number c.set_up-made.result c.is_sealed.result c.set_up-made.ensures c.is_sealed.ensures
+    first_here (isSealed a.key.now a.file.now) c.loop-number.number 10 (omega (arith, c.loop-number-test.true))
+    (said a.key.now a.file.now c.loop-number.number (in_numbers c.set_up-made.result) c.is_sealed.result c.set_up-made.ensures c.is_sealed.ensures
     ∙ c.if-is_sealed.true)
-    ∙ sym c.loop-number.invariant.3
+    ∙ sym c.loop-number.invariant.2
 
 pub loop-number-preserved : goal.loop-number-preserved
 loop-number-preserved c =
     let a = c.args in (
       omega arith,
       omega arith,
-      omega arith,
-      c.loop-number.invariant.3
-          ∙ first_later (isSealed a.key.now a.file.now) c.loop-number.number 10 (omega arith)
-          (said a.key.now a.file.now c.loop-number.number c.set_up-made.result c.is_sealed.result c.set_up-made.ensures c.is_sealed.ensures
+      c.loop-number.invariant.2
+          ∙ first_later (isSealed a.key.now a.file.now) c.loop-number.number 10 (omega (arith, c.loop-number-test.true))
+          (said a.key.now a.file.now c.loop-number.number (in_numbers c.set_up-made.result) c.is_sealed.result c.set_up-made.ensures c.is_sealed.ensures
           ∙ c.if-is_sealed.false),
     )
-
-pub returns : goal.returns
-returns c =
-    let a = c.args in
-    first_none (isSealed a.key.now a.file.now) c.loop-number.number 10 (omega arith) ∙ sym c.loop-number.invariant.3

@@ -11,7 +11,4 @@ abbrev isSealed : (key file : List ℕ) → ℕ → Bool
 isSealed key file c = sealed (set_up c key).schedule file
 
 abbrev pub invariant-loop-number : goal.invariant-loop-number
-invariant-loop-number l = (32 ≤ length l.file) × (length l.file ≤ 4128) × (l.number ≤ 10) × (sealed_by l.key l.file ≡ first (isSealed l.key l.file) l.number (10 - l.number))
-
-abbrev pub decreases-loop-number : goal.decreases-loop-number
-decreases-loop-number l = 10 - l.number
+invariant-loop-number l = (32 ≤ length l.file) × (length l.file ≤ 4128) × (sealed_by l.key l.file ≡ first (isSealed l.key l.file) l.number (10 - l.number))

@@ -1,6 +1,6 @@
 use mathlib.Core.Path.{◌≡◌}
 use mathlib.Core.List.{[]}
-use Prim.Native.Nat.{◌-◌, ◌/◌, ◌≤◌}
+use Prim.Native.Nat.{◌≤◌}
 use lib.ListN.{length}
 use Rattle.cipher.specs.declared.Schedule.{Schedule}
 use Rattle.sent_cards.proofs.Reached.{reached}
@@ -9,7 +9,4 @@ use Rattle.sent_cards.proofs.sealed_front.Given as goal
 
 -- whichever schedule the seal was started under
 abbrev pub invariant-loop-n : goal.invariant-loop-n
-invariant-loop-n l = (l.blocks ≡ length l.file / 16) × (length l.file ≤ 4128) × (l.n ≤ l.blocks) × ((s : Schedule) → l.initial.seal ≡ reached s [] → Looked s l.file l.seal l.n)
-
-abbrev pub decreases-loop-n : goal.decreases-loop-n
-decreases-loop-n l = l.blocks - l.n
+invariant-loop-n l = (length l.file ≤ 4128) × ((s : Schedule) → l.initial.seal ≡ reached s [] → Looked s l.file l.seal l.n)

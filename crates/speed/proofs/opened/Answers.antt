@@ -1,7 +1,7 @@
 use mathlib.Core.Path.{ap, ◌∙◌}
-use Rattle.cipher.specs.declared.SetUp.{SetUp}
+use Rattle.cipher.specs.Numbered.{SetUp}
 use Rattle.stream.specs.Calls.{start}
-use Rattle.stream.specs.declared.Started.{Started}
+use Rattle.stream.specs.Numbered.{Started}
 use Rattle.speed.specs.Works.{begun}
 use Rattle.speed.proofs.opened.Goals as goal
 

@@ -5,6 +5,8 @@ use native.Mathlib.Omega.{arith}
 use lib.ListN.{length, drop}
 use borrow.Author.Tests.{eq-eqb, ne_eqb, lt-ltb, le-ltb}
 use Rattle.refusals.specs.Refusals as refusal
+use Rattle.refusals.specs.declared.Refusal.TheVariants as Refusal
+use Rattle.refusals.proofs.Numbers.{not_done}
 use Rattle.cbc.specs.Cbc.{join, whole}
 use Rattle.blocks_lent.specs.Ways.{F, each}
 use Rattle.blocks_lent.specs.declared.Way.{Way}
@@ -42,32 +44,33 @@ module _ (c d : ℕ) (key x o : List ℕ) where
   unfolding blocks_out
   put e = rw (← e)
 
-pub returns-then-no-ne-DONE : goal.returns-then-no-ne-DONE
-returns-then-no-ne-DONE c =
-    let e = c.refusal-no.ensures in
+pub returns-in-Err : goal.returns-in-Err
+returns-in-Err c =
     let a = c.args in
-    refused a.cipher a.direction a.key.now a.input.now a.output.now _ c.if-no-ne-DONE.true (unlike _ _ _ _ _ _ e c.if-no-ne-DONE.true)
+    let e = c.number.ensures ∙ c.in-Err.ensures in
+    let z : c.number.result ≡ refusal.done → ⊥ = λ d. not_done c.in-Err.no (sym c.number.ensures ∙ d) in
+    refused a.cipher a.direction a.key.now a.input.now a.output.now _ z (unlike _ _ _ _ _ _ e z)
 
 pub returns-then-input-ne0 : goal.returns-then-input-ne0
 returns-then-input-ne0 c =
     let a = c.args in
-    let e = sym c.refusal-no.ensures ∙ c.if-no-ne-DONE.false in
-    refused a.cipher a.direction a.key.now a.input.now a.output.now _ (λ z. omega arith) (uneven _ _ _ _ _ e c.if-input-ne0.true)
+    let e = sym c.in_default.ensures in
+    refused a.cipher a.direction a.key.now a.input.now a.output.now _ (λ z. not_done Refusal.BlockLength (sym c.number-then-input-ne0.ensures ∙ z)) (c.number-then-input-ne0.ensures ∙ uneven _ _ _ _ _ e c.if-input-ne0.true)
 
 pub returns-then-output-input : goal.returns-then-output-input
 returns-then-output-input c =
     let a = c.args in
-    let e = sym c.refusal-no.ensures ∙ c.if-no-ne-DONE.false in
-    refused a.cipher a.direction a.key.now a.input.now a.output.now _ (λ z. omega arith) (no_room _ _ _ _ _ e c.if-input-ne0.false c.if-output-input.true)
+    let e = sym c.in_default.ensures in
+    refused a.cipher a.direction a.key.now a.input.now a.output.now _ (λ z. not_done Refusal.NoRoom (sym c.number-then-output-input.ensures ∙ z)) (c.number-then-output-input.ensures ∙ no_room _ _ _ _ _ e c.if-input-ne0.false c.if-output-input.true)
 
 pub round_keys-keys-requires : goal.round_keys-keys-requires
-round_keys-keys-requires c = (accepted_call _ _ _ _ _ (sym c.refusal-no.ensures ∙ c.if-no-ne-DONE.false)).legal
+round_keys-keys-requires c = (accepted_call _ _ _ _ _ (sym c.in_default.ensures)).legal
 
 pub run-requires : goal.run-requires
 run-requires c =
     let e = c.if-input-ne0.false in
     let r = c.if-output-input.false in
-    ((accepted_call _ _ _ _ _ (sym c.refusal-no.ensures ∙ c.if-no-ne-DONE.false)).legal, omega arith, omega arith)
+    ((accepted_call _ _ _ _ _ (sym c.in_default.ensures)).legal, omega arith, omega arith)
 
 pub returns : goal.returns
 unfolding worked schedule enciphered deciphered
@@ -75,7 +78,7 @@ returns c =
     let a = c.args in
     let x = a.input.now in
     let o = a.output.now in
-    let e = sym c.refusal-no.ensures ∙ c.if-no-ne-DONE.false in
+    let e = sym c.in_default.ensures in
     let fine = all_done a.cipher a.direction a.key.now (length x) (length o) e c.if-input-ne0.false c.if-output-input.false in
     let w : Way = record { cipher = a.cipher; length = length a.key.now; direction = a.direction } in
     let long : 16 * (length x / 16) ≡ length x = let z = c.if-input-ne0.false in omega arith in

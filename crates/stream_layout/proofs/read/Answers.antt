@@ -13,7 +13,7 @@ returns c =
       one_byte r 1 (omega arith),
       one_byte r 2 (omega arith),
       one_byte r 3 (omega arith),
-      c.at-count.ensures,
-      c.block_at-chain.ensures,
-      c.block_at-held.ensures,
+      c.at.ensures,
+      c.part.ensures.taken,
+      c.part-2.ensures.taken,
     )

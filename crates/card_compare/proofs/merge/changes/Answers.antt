@@ -15,23 +15,21 @@ loop-i-preserved c =
     let pre = c.requires in
     let x = c.number-x.ensures in
     let y = c.number-y.ensures in
-    let z = c.lesser-z.ensures in
-    let l = z.0 in
-    let k = z.1 in
+    let z = c.min-z.ensures in
     -- what stands next, once it is marked
-    let next : Next c.args.first.now c.args.second.now c.args.a.now c.args.b.now c.loop-i.i c.loop-i.j c.lesser-z.result c.mark-m.result
+    let next : Next c.args.first.now c.args.second.now c.args.a.now c.args.b.now c.loop-i.i c.loop-i.j c.min-z.result c.mark-m.result
     = record {
       more = c.loop-i-test.true;
       low_a = omega arith;
       low_b = omega arith;
-      least = λ h. z.2 (omega arith) ∙ y;
+      least = λ h. omega arith ∙ y;
       marked = c.mark-m.ensures;
       byte = search rules;
     } in
     -- a pointer goes on where its number is the lesser
     walk_on pre.0 pre.1 pre.2 pre.3 c.loop-i.invariant next
-    (ap (λ (m : ℕ). c.loop-i.i + m) (c.one_if-i.ensures.1 ∙ ap (λ (v : ℕ). choose (eqb v c.lesser-z.result) 1 0) x))
-    (ap (λ (m : ℕ). c.loop-i.j + m) (c.one_if-j.ensures.1 ∙ ap (λ (v : ℕ). choose (eqb v c.lesser-z.result) 1 0) y))
+    (ap (λ (m : ℕ). c.loop-i.i + m) (c.one_if-i.ensures.1 ∙ ap (λ (v : ℕ). choose (eqb v c.min-z.result) 1 0) x))
+    (ap (λ (m : ℕ). c.loop-i.j + m) (c.one_if-j.ensures.1 ∙ ap (λ (v : ℕ). choose (eqb v c.min-z.result) 1 0) y))
     (ap (λ (m : ℕ). c.loop-i.n + m) c.one_if-n.ensures.1)
 
 pub returns : goal.returns

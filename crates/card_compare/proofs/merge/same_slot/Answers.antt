@@ -13,5 +13,5 @@ returns c =
     let one = slot c.args.first.now (c.args.k % 256) in
     let two = slot c.args.second.now (c.args.l % 256) in
     c.zero_from.ensures
-    ∙ ap zeros (c.xor16-differences.ensures ∙ ap₂ (λ (a b : List ℕ). xor_l 16 a b) c.block_at-one.ensures c.block_at-two.ensures)
+    ∙ ap zeros (c.xor-differences.ensures ∙ ap₂ (λ (a b : List ℕ). xor_l 16 a b) c.part-one.ensures.taken c.part-two.ensures.taken)
     ∙ same_by_xor 16 one two (slot-length c.args.first.now (c.args.k % 256) c.requires.0) (slot-length c.args.second.now (c.args.l % 256) c.requires.1)

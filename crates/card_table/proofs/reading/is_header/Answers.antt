@@ -2,7 +2,6 @@ use mathlib.Core.Path.{◌≡◌, sym, ap₂, ◌∙◌}
 use mathlib.Core.Bool.{Bool}
 use mathlib.Core.List.{List}
 use Prim.Native.Nat.{ℕ}
-use native.Mathlib.Omega.{arith}
 use borrow.Author.Tests.{not-true, not-false}
 use Rattle.spelling.specs.Word.{spells}
 use Rattle.cells.specs.Cells.{cells, text_of}
@@ -24,17 +23,12 @@ returns-then-l-ne6 c =
     (λ z. c.if-l-ne6.true (c.count-l.ensures.cells ∙ z))
 
 pub loop-k-init : goal.loop-k-init
-loop-k-init c = (
-  omega arith,
-  by_cells c.args.line.now (sym c.count-l.ensures.good ∙ not-false _ c.if-not-l.false)
-      (sym c.count-l.ensures.cells ∙ c.if-l-ne6.false),
-)
+loop-k-init c = by_cells c.args.line.now (sym c.count-l.ensures.good ∙ not-false _ c.if-not-l.false)
+    (sym c.count-l.ensures.cells ∙ c.if-l-ne6.false)
 
 pub loop-k-preserved : goal.loop-k-preserved
 loop-k-preserved c =
-    let l = c.args.line.now in (
-      omega arith,
-      sym (spells_on l c.loop-k.k (omega arith)
-          (said l c.loop-k.k c.text.ensures c.text-in-loop-k.ensures c.is.ensures c.if-not-is.false))
-          ∙ c.loop-k.invariant.1,
-    )
+    let l = c.args.line.now in
+    sym (spells_on l c.loop-k.k c.loop-k-test.true
+    (said l c.loop-k.k c.text.ensures c.text-in-loop-k.ensures c.is.ensures c.if-not-is.false))
+    ∙ c.loop-k.invariant

@@ -1,9 +1,7 @@
 use mathlib.Core.Path.{sym, ap, ◌∙◌}
 use borrow.Author.Tests.{not-true, not-false}
-use Rattle.card_table.specs.Table.{with_record}
 use Rattle.card_table.specs.code.State.{read_of}
 use Rattle.card_table.specs.declared.reading.Table.{Table}
-use Rattle.record_words.specs.declared.record.Record.{Record}
 use Rattle.card_table.proofs.Records.{quote_out_of_place, passed_over, not_six_fields, wrong_field, right_fields}
 use Rattle.card_table.proofs.reading.row.Goals as goal
 
@@ -26,19 +24,16 @@ returns-then-l-ne6 g c =
     ∙ not_six_fields (read_of a.before a.card.now) a.line.now (sym c.count-l.ensures.good ∙ not-false _ c.if-not-l.false)
     (sym c.count-l.ensures.filled ∙ not-false _ c.if-not-l-2.false) (λ z. c.if-l-ne6.true (c.count-l.ensures.cells ∙ z))
 
-pub returns-then-not-record : goal.returns-then-not-record
-returns-then-not-record g c =
+pub returns-in-None : goal.returns-in-None
+returns-in-None g c =
     let a = c.args in
-    ap (λ (t : Table). read_of t a.card.now) c.wrong-then-not-record.ensures
+    ap (λ (t : Table). read_of t a.card.now) c.wrong-in-None.ensures
     ∙ wrong_field (read_of a.before a.card.now) a.line.now (sym c.count-l.ensures.good ∙ not-false _ c.if-not-l.false)
-    (sym c.count-l.ensures.filled ∙ not-false _ c.if-not-l-2.false) (sym c.count-l.ensures.cells ∙ c.if-l-ne6.false)
-    (ap (λ (r : Record). r.ok) (sym c.record_of-record.ensures) ∙ not-true _ c.if-not-record.true)
+    (sym c.count-l.ensures.filled ∙ not-false _ c.if-not-l-2.false) (sym c.count-l.ensures.cells ∙ c.if-l-ne6.false) c.in-None.ensures
 
-pub returns : goal.returns
-returns g c =
+pub returns-in-Some : goal.returns-in-Some
+returns-in-Some g c =
     let a = c.args in
     c.put.ensures
-    ∙ ap (λ (r : Record). with_record (read_of a.before a.card.now) r.fields) c.record_of-record.ensures
     ∙ right_fields (read_of a.before a.card.now) a.line.now (sym c.count-l.ensures.good ∙ not-false _ c.if-not-l.false)
-    (sym c.count-l.ensures.filled ∙ not-false _ c.if-not-l-2.false) (sym c.count-l.ensures.cells ∙ c.if-l-ne6.false)
-    (ap (λ (r : Record). r.ok) (sym c.record_of-record.ensures) ∙ not-false _ c.if-not-record.false)
+    (sym c.count-l.ensures.filled ∙ not-false _ c.if-not-l-2.false) (sym c.count-l.ensures.cells ∙ c.if-l-ne6.false) c.in-Some.ensures

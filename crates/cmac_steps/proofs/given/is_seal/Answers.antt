@@ -20,5 +20,5 @@ returns c =
     let long : length c.args.seal ≡ 16 = search rules in
     let a = c.args in
     c.zero_from.ensures
-    ∙ ap zeros (c.xor16-differences.ensures ∙ ap (λ (l : List ℕ). xor_l 16 l a.seal) (c.block_at-block.ensures ∙ take_all 16 a.given.now (omega arith)))
+    ∙ ap zeros (c.xor-differences.ensures ∙ ap (λ (l : List ℕ). xor_l 16 l a.seal) (c.part.ensures.taken ∙ take_all 16 a.given.now (omega arith)))
     ∙ same_by_xor 16 a.given.now a.seal c.if-given-ne16.false long

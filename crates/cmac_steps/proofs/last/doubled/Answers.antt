@@ -15,4 +15,4 @@ pub returns : goal.returns
 returns c =
     let x = c.args.x in
     let b = (bytes_known 16 x _ c.well_formed.0).each 0 (omega arith) in
-    c.xor16.ensures ∙ ap (λ (l : List ℕ). xor_l 16 l R128) c.shl1-y.ensures ∙ sym (doubled_high x c.if-x-lt128.false b)
+    c.xor.ensures ∙ ap (λ (l : List ℕ). xor_l 16 l R128) c.shl1-y.ensures ∙ sym (doubled_high x c.if-x-lt128.false b)

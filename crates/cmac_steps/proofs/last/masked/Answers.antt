@@ -13,7 +13,7 @@ pub returns-then-n-eq16 : goal.returns-then-n-eq16
 returns-then-n-eq16 c =
     let long : length c.args.held ≡ 16 = search rules in
     let a = c.args in
-    c.xor16.ensures
+    c.xor.ensures
     ∙ ap (λ (k : List ℕ). xor_l 16 k a.held) c.doubled-k1.ensures
     ∙ mask_whole (doubled a.l) (doubled (doubled a.l)) a.held a.n long c.if-n-eq16.true
 
@@ -23,6 +23,6 @@ returns c =
     let a = c.args in
     let p = c.requires in
     let part = c.if-n-eq16.false in
-    c.xor16-2.ensures
+    c.xor-2.ensures
     ∙ ap (λ (k : List ℕ). xor_l 16 k (set a.held a.n 128)) (c.doubled-k2.ensures ∙ ap doubled c.doubled-k1.ensures)
     ∙ mask_part (doubled a.l) (doubled (doubled a.l)) a.held a.n long (omega arith) p.1

@@ -8,6 +8,3 @@ use Rattle.cmac_steps.proofs.last.shl1.Given as goal
 
 abbrev pub invariant-loop-i : goal.invariant-loop-i
 invariant-loop-i l = (l.i ≤ 16) × (l.y ≡ take l.i (tab 16 (up_at l.x)) ++ replicate (16 - l.i) 0)
-
-abbrev pub decreases-loop-i : goal.decreases-loop-i
-decreases-loop-i l = 16 - l.i

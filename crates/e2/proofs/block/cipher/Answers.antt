@@ -7,7 +7,7 @@ use Rattle.laws.specs.Places.{tab, part}
 use Rattle.laws.specs.Rounds.{feistel}
 use Rattle.e2_steps.specs.code.Layout.{pair_bytes}
 use Rattle.e2.specs.Block.{F, first, rounds, last, cipher, sequence, round_key}
-use Rattle.e2.specs.code.Layout.{block_bytes}
+use Rattle.e2.specs.code.Layout.{block_bytes, is_back}
 use Rattle.e2.specs.declared.block.Halves.{Halves}
 use Rattle.e2.proofs.block.cipher.Goals as goal
 
@@ -23,5 +23,5 @@ by_halves k m f r e d =
 
 pub returns : goal.returns
 returns c = let a = c.args in
-    let k : ℕ → List ℕ = λ i. round_key a.keys.now (sequence a.back i) in
+    let k : ℕ → List ℕ = λ i. round_key a.keys.now (sequence (is_back a.order) i) in
     c.last.ensures ∙ by_halves k a.block c.first-m.result c.rounds-n.result c.first-m.ensures c.rounds-n.ensures

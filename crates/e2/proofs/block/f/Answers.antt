@@ -12,8 +12,8 @@ returns c = let a = c.args in
     let x = pair_bytes a.x in
     c.brl.ensures
     ∙ ap BRL (c.s.ensures
-    ∙ ap S (c.xor-c.ensures
+    ∙ ap S (c.bitxor-c.ensures
     ∙ ap₂ (xor_l 8)
-    (c.p.ensures ∙ ap P (c.s-b.ensures ∙ ap S (c.xor-a.ensures ∙ ap (xor_l 8 x) c.load.ensures)))
+    (c.p.ensures ∙ ap P (c.s-b.ensures ∙ ap S (c.bitxor-a.ensures ∙ ap (xor_l 8 x) c.load.ensures)))
     c.load-2.ensures))
     ∙ sym (F_at ((a.i - 1) * 16) x a.keys.now)

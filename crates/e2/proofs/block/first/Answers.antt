@@ -14,5 +14,5 @@ returns c = let a = c.args in
     c.bp.ensures
     ∙ ap BP (c.times.ensures
     ∙ ap₂ times
-    (c.xor.ensures ∙ ap₂ (xor_l 16) c.load.ensures (c.key-k13.ensures ∙ ap k c.sequence.ensures.0))
+    (c.bitxor.ensures ∙ ap₂ (xor_l 16) c.load.ensures (c.key-k13.ensures ∙ ap k c.sequence.ensures.0))
     (c.key-k14.ensures ∙ ap k c.sequence-2.ensures.0))

@@ -12,7 +12,7 @@ unfolding last
 returns c = let a = c.args in
     let k : ℕ → List ℕ = round_key a.keys.now in
     c.store.ensures
-    ∙ c.xor.ensures
+    ∙ c.bitxor.ensures
     ∙ ap₂ (xor_l 16)
     (c.over.ensures ∙ ap₂ over c.bp_inverse.ensures (c.key-k15.ensures ∙ ap k c.sequence.ensures.0))
     (c.key-k16.ensures ∙ ap k c.sequence-2.ensures.0)

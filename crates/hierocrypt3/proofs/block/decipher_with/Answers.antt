@@ -9,7 +9,7 @@ pub returns : goal.returns
 unfolding decipher
 returns c = let args = c.args in
     let k = round_key args.keys.now in
-    let len = args.length in
+    let len = args.length.bytes in
     let e : len / 8 + 3 ≡ T len - 1 = omega arith in
     c.bytes.ensures
     ∙ ap (joined 0 4) (c.decryption.ensures ∙ ap (decryption (len / 8 + 3) k) c.columns.ensures ∙ ap

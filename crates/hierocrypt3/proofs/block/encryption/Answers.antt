@@ -8,10 +8,10 @@ pub loop-i-init : goal.loop-i-init
 loop-i-init c = search (rules, loops)
 
 pub loop-i-preserved : goal.loop-i-preserved
-loop-i-preserved c = (search rules, steps_step c.loop-i.invariant.1 c.rho-y.ensures)
+loop-i-preserved c = steps_step c.loop-i.invariant c.rho-y.ensures
 
 pub returns : goal.returns
 returns c = let args = c.args in
     c.add_key.ensures
-    ∙ encryption_end args.keys.now args.n c.loop-i.i args.block c.loop-i.x c.loop-i.invariant.1
+    ∙ encryption_end args.keys.now args.n c.loop-i.i args.block c.loop-i.x c.loop-i.invariant
     (search rules) (search rules)

@@ -10,4 +10,4 @@ pub returns : goal.returns
 unfolding MB3
 returns c = c.joined.ensures
     ∙ (λ i. c.bit_matrix.ensures i ++ c.bit_matrix-2.ensures i)
-    ∙ (λ i. bit_matrix bit_xor 0 4 operations.d (c.half.ensures i) ++ bit_matrix bit_xor 0 4 c⁻ (c.half-2.ensures i))
+    ∙ (λ i. bit_matrix bit_xor 0 4 operations.d (c.part.ensures.placed i) ++ bit_matrix bit_xor 0 4 c⁻ (c.part-2.ensures.placed i))

@@ -6,8 +6,8 @@ use Rattle.hierocrypt3_keys.proofs.PFunction.{p16_halves}
 use Rattle.hierocrypt3_keys.proofs.operations.p16.Goals as goal
 
 pub returns : goal.returns
-returns c = let x34 = c.half-x34.ensures in
-    let y12 = c.xor4-y12.ensures ∙ (λ i. xor_l 4 (c.half.ensures i) (x34 i)) in
+returns c = let x34 = c.part-x34.ensures.placed in
+    let y12 = c.xor-y12.ensures ∙ (λ i. xor_l 4 (c.part.ensures.placed i) (x34 i)) in
     let y21 = c.pairs_exchanged.ensures ∙ ap (exchanged 2) y12 in
-    let y34 = c.xor4.ensures ∙ (λ i. xor_l 4 (y21 i) (x34 i)) in
+    let y34 = c.xor.ensures ∙ (λ i. xor_l 4 (y21 i) (x34 i)) in
     c.joined.ensures ∙ (λ i. y12 i ++ y34 i) ∙ p16_halves c.args.x

@@ -8,4 +8,4 @@ returns c = let x = c.args.x in
     let y = c.args.y in
     let lx = (bytes_known 8 x _ c.well_formed.0).long in
     let ly = (bytes_known 8 y _ c.well_formed.1.0).long in
-    c.xor8.ensures ∙ p32_first x y lx ly
+    c.xor.ensures ∙ p32_first x y lx ly

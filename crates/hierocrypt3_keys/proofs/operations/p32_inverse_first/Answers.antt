@@ -11,6 +11,6 @@ returns c = let x = c.args.x in
     let y = c.args.y in
     let lx = (bytes_known 8 x _ c.well_formed.0).long in
     let ly = (bytes_known 8 y _ c.well_formed.1.0).long in
-    c.xor8-2.ensures
-    ∙ ap (xor_l 8 x) (c.xor8.ensures ∙ ap (λ (l : List ℕ). xor_l 8 l y) c.halves_exchanged.ensures)
+    c.xor-2.ensures
+    ∙ ap (xor_l 8 x) (c.xor.ensures ∙ ap (λ (l : List ℕ). xor_l 8 l y) c.halves_exchanged.ensures)
     ∙ p32_first⁻ x y lx ly

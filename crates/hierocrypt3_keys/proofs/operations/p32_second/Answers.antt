@@ -12,6 +12,6 @@ returns c = let x = c.args.x in
     let y = c.args.y in
     let lx = (bytes_known 8 x _ c.well_formed.0).long in
     let ly = (bytes_known 8 y _ c.well_formed.1.0).long in
-    c.xor8-2.ensures
-    ∙ ap (λ (l : List ℕ). xor_l 8 l y) (c.halves_exchanged.ensures ∙ ap (exchanged 4) c.xor8.ensures)
+    c.xor-2.ensures
+    ∙ ap (λ (l : List ℕ). xor_l 8 l y) (c.halves_exchanged.ensures ∙ ap (exchanged 4) c.xor.ensures)
     ∙ p32_second x y lx ly

@@ -5,5 +5,5 @@ use Rattle.hierocrypt3_steps.proofs.mds_l.mds_l_inverse.Goals as goal
 
 pub returns : goal.returns
 returns c = c.turned_sum.ensures
-    ∙ (λ i. turned_sum (c.u_at.ensures i) (c.u_at-2.ensures i) (c.u_at-3.ensures i) (c.u_at-4.ensures i))
+    ∙ (λ i. turned_sum (c.u.ensures i) (c.u-2.ensures i) (c.u-3.ensures i) (c.u-4.ensures i))
     ∙ mds_l⁻_turned c.args.x

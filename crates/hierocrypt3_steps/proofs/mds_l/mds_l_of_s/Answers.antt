@@ -5,5 +5,5 @@ use Rattle.hierocrypt3_steps.proofs.mds_l.mds_l_of_s.Goals as goal
 
 pub returns : goal.returns
 returns c = c.turned_sum.ensures
-    ∙ (λ i. turned_sum (c.t_at.ensures i) (c.t_at-2.ensures i) (c.t_at-3.ensures i) (c.t_at-4.ensures i))
+    ∙ (λ i. turned_sum (c.t.ensures i) (c.t-2.ensures i) (c.t-3.ensures i) (c.t-4.ensures i))
     ∙ mds_l_turned c.args.x

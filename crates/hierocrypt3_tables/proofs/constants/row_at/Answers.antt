@@ -24,5 +24,5 @@ returns-then-length-eq24 c = let args = c.args in (
 
 pub returns : goal.returns
 returns c = let args = c.args in
-    let e : 32 ≡ args.length = omega arith in
+    let e : 32 ≡ args.length.bytes = omega arith in
     (ap (λ (n : ℕ). get_or (row n) args.t 0) e, ltb→lt (get_or (row 32) args.t 0) 6 (table_at (λ k x. ltb x 6) (row 32) tt args.t (search rules)))

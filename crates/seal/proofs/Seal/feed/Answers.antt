@@ -6,6 +6,7 @@ use borrow.Author.Rules.{rules}
 use lib.ListN.{length, take, drop}
 use Rattle.runs.specs.Zeros.{zeros}
 use Rattle.refusals.specs.Refusals as refusal
+use Rattle.refusals.proofs.Numbers.{not_done}
 use Rattle.cbc.specs.Cbc.{blocks}
 use Rattle.cmac.specs.Cmac.{chained}
 use Rattle.cmac.proofs.Cut.{pushed_within}
@@ -27,18 +28,18 @@ record Past (s : Seal) (w : List ℕ) (n : ℕ) (next : Seal) : Type 0 where
   next_is : next ≡ chained_to s last
   ran : last ≡ chained (enciphered s.schedule) s.chain (blocks n w)
 
-pub returns-then-no-ne-DONE : goal.returns-then-no-ne-DONE
-returns-then-no-ne-DONE c = record { returned = c.fed_as.ensures ∙ piece_refused _ _ _ c.piece_refusal-no.ensures c.if-no-ne-DONE.true }
+pub returns-in-Err : goal.returns-in-Err
+returns-in-Err c = record { returned = c.fed_as.ensures ∙ piece_refused _ _ _ c.in-Err.ensures (not_done c.in-Err.refusal) }
 
 pub pushed-n-requires : goal.pushed-n-requires
 pushed-n-requires c =
-    let done : piece_refusal c.args.self (length c.args.piece.now) ≡ refusal.done = sym c.piece_refusal-no.ensures ∙ c.if-no-ne-DONE.false in
+    let done : piece_refusal c.args.self (length c.args.piece.now) ≡ refusal.done = sym c.in_default.ensures in
     let accepted : AcceptedPiece c.args.self (length c.args.piece.now) = accepted_piece c.args.self (length c.args.piece.now) done in
     let w = accepted.within in omega arith
 
 pub left_over-requires : goal.left_over-requires
 left_over-requires c =
-    let done : piece_refusal c.args.self (length c.args.piece.now) ≡ refusal.done = sym c.piece_refusal-no.ensures ∙ c.if-no-ne-DONE.false in
+    let done : piece_refusal c.args.self (length c.args.piece.now) ≡ refusal.done = sym c.in_default.ensures in
     let accepted : AcceptedPiece c.args.self (length c.args.piece.now) = accepted_piece c.args.self (length c.args.piece.now) done in
     let held_16 : length c.args.self.held ≡ 16 = search rules in
     let n = c.held_number-kept.ensures in
@@ -54,7 +55,7 @@ left_over-requires c =
 
 pub run-last-requires : goal.run-last-requires
 run-last-requires c =
-    let done : piece_refusal c.args.self (length c.args.piece.now) ≡ refusal.done = sym c.piece_refusal-no.ensures ∙ c.if-no-ne-DONE.false in
+    let done : piece_refusal c.args.self (length c.args.piece.now) ≡ refusal.done = sym c.in_default.ensures in
     let accepted : AcceptedPiece c.args.self (length c.args.piece.now) = accepted_piece c.args.self (length c.args.piece.now) done in
     let n = c.held_number-kept.ensures in
     let within = pushed_within c.args.self.count (length c.args.piece.now) in
@@ -63,7 +64,7 @@ run-last-requires c =
 
 pub overflow_add-next : goal.overflow_add-next
 overflow_add-next c =
-    let done : piece_refusal c.args.self (length c.args.piece.now) ≡ refusal.done = sym c.piece_refusal-no.ensures ∙ c.if-no-ne-DONE.false in
+    let done : piece_refusal c.args.self (length c.args.piece.now) ≡ refusal.done = sym c.in_default.ensures in
     let accepted : AcceptedPiece c.args.self (length c.args.piece.now) = accepted_piece c.args.self (length c.args.piece.now) done in
     let k = accepted.within in
     let n : c.if-n-gt0.next.count ≡ c.args.self.count =
@@ -72,7 +73,7 @@ overflow_add-next c =
 
 pub returns : goal.returns
 returns c =
-    let done : piece_refusal c.args.self (length c.args.piece.now) ≡ refusal.done = sym c.piece_refusal-no.ensures ∙ c.if-no-ne-DONE.false in
+    let done : piece_refusal c.args.self (length c.args.piece.now) ≡ refusal.done = sym c.in_default.ensures in
     let held_16 : length c.args.self.held ≡ 16 = search rules in
     let s = c.args.self in
     let p = c.args.piece.now in

@@ -29,4 +29,4 @@ returns c =
     let mn =
     c.masked-last.ensures
     ∙ ap₂ (λ (l : List ℕ) (k : ℕ). last (doubled l) (doubled (doubled l)) (take k s.held)) l_is c.held_number.ensures.0 in
-    c.enciphered.ensures ∙ ap (enciphered s.schedule) (c.xor16.ensures ∙ ap (xor_l 16 s.chain) mn)
+    c.enciphered.ensures ∙ ap (enciphered s.schedule) (c.xor.ensures ∙ ap (xor_l 16 s.chain) mn)

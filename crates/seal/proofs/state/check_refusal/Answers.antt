@@ -4,4 +4,4 @@ use Rattle.seal.proofs.state.check_refusal.Goals as goal
 
 pub returns : goal.returns
 unfolding check_refusal
-returns c = c.first.ensures ∙ rw c.bad_state.ensures
+returns c = c.first.ensures ∙ rw c.is_bad.ensures

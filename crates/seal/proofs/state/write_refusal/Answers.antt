@@ -4,4 +4,4 @@ use Rattle.seal.proofs.state.write_refusal.Goals as goal
 
 pub returns : goal.returns
 unfolding write_refusal
-returns c = c.first.ensures ∙ rw c.bad_state.ensures
+returns c = c.first.ensures ∙ rw c.is_bad.ensures

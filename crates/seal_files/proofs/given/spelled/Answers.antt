@@ -1,8 +1,8 @@
-use Rattle.hex_digits.specs.declared.Reading.TheVariants.{Bytes}
+use Rattle.std.specs.Prelude.{Ok}
 use Rattle.key_files.proofs.Told.{told}
 use Rattle.seal_files.proofs.given.spelled.Goals as goal
 
-pub returns-in-Bytes : goal.returns-in-Bytes
-returns-in-Bytes c =
-    (told c.args.word.now c.args.bytes.now c.read-r.new.out c.read-r.auto.out (Bytes c.in-Bytes.n) c.read-r.result
-    c.in-Bytes.is c.read-r.ensures).counts
+pub returns-in-Ok : goal.returns-in-Ok
+returns-in-Ok c =
+    (told c.args.word.now c.args.bytes.now c.read.new.out c.read.auto.out (Ok c.in-Ok.n) c.read.result
+    c.in-Ok.is c.read.ensures).counts

@@ -1,4 +1,4 @@
-use native.Mathlib.Omega.{arith}
+use Rattle.std.proofs.Common.{arith}
 use Rattle.spelling.proofs.Words.{other_length}
 use Rattle.spelling.proofs.word.is.Goals as goal
 

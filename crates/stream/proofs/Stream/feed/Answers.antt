@@ -6,6 +6,7 @@ use borrow.Author.Rules.{rules}
 use lib.ListN.{length, take, drop}
 use Rattle.runs.specs.Zeros.{zeros}
 use Rattle.refusals.specs.Refusals as refusal
+use Rattle.refusals.proofs.Numbers.{not_done}
 use Rattle.cbc.specs.Cbc.{Chained}
 use Rattle.cbc.proofs.Loop.{running_start, running_end}
 use Rattle.cipher.specs.Schedule.{enciphered, deciphered}
@@ -35,15 +36,15 @@ record Past (s : Stream) (p o : List ℕ) (next : Stream) (o' : List ℕ) : Type
   next_is : next ≡ chained_to s last
   ran : Ran s p o ((s.count % 16 + length p) / 16) last o'
 
-pub returns-then-no-ne-DONE : goal.returns-then-no-ne-DONE
-returns-then-no-ne-DONE c =
+pub returns-in-Err : goal.returns-in-Err
+returns-in-Err c =
     let a = c.args in
-    let r = piece_refused a.self a.piece.now a.out.now _ c.piece_refusal-no.ensures c.if-no-ne-DONE.true in
+    let r = piece_refused a.self a.piece.now a.out.now _ c.in-Err.ensures (not_done c.in-Err.refusal) in
     record { returned = c.fed_as.ensures ∙ r.0; left = r.1 }
 
 pub run-last-requires : goal.run-last-requires
 run-last-requires c =
-    let done : piece_refusal c.args.self (length c.args.piece.now) (length c.args.out.now) ≡ refusal.done = sym c.piece_refusal-no.ensures ∙ c.if-no-ne-DONE.false in
+    let done : piece_refusal c.args.self (length c.args.piece.now) (length c.args.out.now) ≡ refusal.done = sym c.in_default.ensures in
     let accepted : AcceptedPiece c.args.self (length c.args.piece.now) (length c.args.out.now) = accepted_piece c.args.self (length c.args.piece.now) (length c.args.out.now) done in
     let k = accepted in
     let f = k.fits in
@@ -52,7 +53,7 @@ run-last-requires c =
 -- behind the blocks the held bytes and the count stand, whichever way it came
 pub left_over-requires : goal.left_over-requires
 left_over-requires c =
-    let done : piece_refusal c.args.self (length c.args.piece.now) (length c.args.out.now) ≡ refusal.done = sym c.piece_refusal-no.ensures ∙ c.if-no-ne-DONE.false in
+    let done : piece_refusal c.args.self (length c.args.piece.now) (length c.args.out.now) ≡ refusal.done = sym c.in_default.ensures in
     let accepted : AcceptedPiece c.args.self (length c.args.piece.now) (length c.args.out.now) = accepted_piece c.args.self (length c.args.piece.now) (length c.args.out.now) done in
     let held_is : c.if-n-gt0.next.held ≡ c.args.self.held =
     elim c.if-n-gt0.branch [ then-n-gt0 w ↦ ap (λ (s : Stream). s.held) w.next-is | else-n-gt0 w ↦ ap (λ (s : Stream). s.held) w.next-is ] in
@@ -63,7 +64,7 @@ left_over-requires c =
 
 pub overflow_add-next : goal.overflow_add-next
 overflow_add-next c =
-    let done : piece_refusal c.args.self (length c.args.piece.now) (length c.args.out.now) ≡ refusal.done = sym c.piece_refusal-no.ensures ∙ c.if-no-ne-DONE.false in
+    let done : piece_refusal c.args.self (length c.args.piece.now) (length c.args.out.now) ≡ refusal.done = sym c.in_default.ensures in
     let accepted : AcceptedPiece c.args.self (length c.args.piece.now) (length c.args.out.now) = accepted_piece c.args.self (length c.args.piece.now) (length c.args.out.now) done in
     let k = accepted.within in
     let n : c.if-n-gt0.next.count ≡ c.args.self.count =
@@ -72,7 +73,7 @@ overflow_add-next c =
 
 pub returns : goal.returns
 returns c =
-    let done : piece_refusal c.args.self (length c.args.piece.now) (length c.args.out.now) ≡ refusal.done = sym c.piece_refusal-no.ensures ∙ c.if-no-ne-DONE.false in
+    let done : piece_refusal c.args.self (length c.args.piece.now) (length c.args.out.now) ≡ refusal.done = sym c.in_default.ensures in
     let past : Past c.args.self c.args.piece.now c.args.out.now c.if-n-gt0.next c.if-n-gt0.out = elim c.if-n-gt0.branch [
       | then-n-gt0 w ↦ record {
         last = w.run-last.result;

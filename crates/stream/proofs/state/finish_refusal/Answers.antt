@@ -4,4 +4,4 @@ use Rattle.stream.proofs.state.finish_refusal.Goals as goal
 
 pub returns : goal.returns
 unfolding finish_refusal
-returns c = c.first.ensures ∙ rw c.bad_state.ensures
+returns c = c.first.ensures ∙ rw c.is_bad.ensures

@@ -4,4 +4,4 @@ use Rattle.stream.proofs.state.start_refusal.Goals as goal
 
 pub returns : goal.returns
 unfolding start_refusal
-returns c = c.first.ensures ∙ rw (c.bad_schedule.ensures, c.is_direction-undirected.ensures)
+returns c = c.first.ensures ∙ rw (c.is_bad.ensures, c.is_direction-undirected.ensures)

@@ -4,6 +4,3 @@ use Rattle.stream_layout.proofs.number.at.Given as goal
 
 abbrev pub invariant-loop-i : goal.invariant-loop-i
 invariant-loop-i l = Read l.bytes l.from l.width l.n l.i
-
-abbrev pub decreases-loop-i : goal.decreases-loop-i
-decreases-loop-i l = l.width - l.i

@@ -1,4 +1,4 @@
-use mathlib.Core.Path.{◌≡◌, ap, ◌∙◌, subst}
+use mathlib.Core.Path.{◌≡◌, ap, ap₂, ◌∙◌, subst}
 use Prim.Native.Nat.{ℕ, ◌+◌, ◌-◌, ◌*◌, ◌/◌, ◌%◌, ◌^◌, ◌<◌}
 use native.Mathlib.Omega.{arith}
 use lib.Bits.{bit_or}
@@ -8,7 +8,13 @@ use Rattle.words.proofs.word.rotated.Goals as goal
 
 pub returns : goal.returns
 returns c =
-    let e : 32 ≡ 32 - c.args.n + c.args.n = omega arith in
-    let h : c.args.x < 2 ^ 32 = search rules in
-    ap (λ (m : ℕ). bit_or (c.args.x * 2 ^ c.args.n % 2 ^ m) (c.args.x / 2 ^ (32 - c.args.n))) e
-    ∙ turn_code (32 - c.args.n) c.args.n c.args.x (subst (λ (m : ℕ). c.args.x < 2 ^ m) e h)
+    let n = c.args.n in
+    let x = c.args.x in
+    let left : n % 32 ≡ n = omega arith in
+    let right : (32 - n % 32) % 32 ≡ 32 - n = omega arith in
+    let width : 32 ≡ 32 - n + n = omega arith in
+    let small : x < 2 ^ 32 = search rules in
+    c.rotate_left.ensures
+    ∙ ap₂ (λ (p q : ℕ). bit_or (x * 2 ^ p % 2 ^ 32) (x / 2 ^ q)) left right
+    ∙ ap (λ (m : ℕ). bit_or (x * 2 ^ n % 2 ^ m) (x / 2 ^ (32 - n))) width
+    ∙ turn_code (32 - n) n x (subst (λ (m : ℕ). x < 2 ^ m) width small)

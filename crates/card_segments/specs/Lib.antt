@@ -1,0 +1,2 @@
+-- Which keys are a recipe's.
+pub mod Keys
