@@ -6,7 +6,7 @@ ghost use Rattle.card_table.specs.code.State.{read_of};
 
 use card_fields::{Fields, laid};
 use card_rules::Field;
-use cells::text;
+use cells::{part, text};
 use record_words::{named, record};
 use spelling::word;
 
@@ -35,7 +35,9 @@ fn first_line(text: &[u8]) -> (&[u8], &[u8])
 {
     for (i, c) in text.iter().enumerate() {
         if *c == b'\n' {
-            return (&text[..i], &text[i + 1..]);
+            let line = part(text, 0, i);
+            let rest = part(text, i + 1, text.len());
+            return (line, rest);
         }
     }
     (text, &text[text.len()..])

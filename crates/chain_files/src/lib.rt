@@ -1,13 +1,17 @@
 // A message enciphered or deciphered from file to file: read, worked and written piece by piece.
 #![tactic(auto)]
 
+ghost use Rattle.recipe_words.specs.Given.{direction_number};
+ghost use Rattle.stream.specs.Numbered.{started_in_numbers};
+ghost use Rattle.stream.specs.Promises.{Starts};
+
 use cipher::Schedule;
 use recipe_words::arguments::Direction;
 use recipe_words::files::Source;
 use recipe_words::{files, outcome, progress};
 use refusals::Refusal;
 use std::fs::File;
-use stream::Stream;
+use stream::{Started, Stream};
 
 // The places of the words that name the files.
 const MESSAGE: usize = 6;
@@ -73,15 +77,21 @@ fn work(rt: &HostRuntime, stream: Stream) {
     pieces(rt, &mut from, &mut to, stream);
 }
 
+// The stream begun. Where no direction is given, the call itself refuses.
+fn begun(given: Option<Direction>, schedule: Schedule, first: &[u8]) -> Started
+    ensures { Starts schedule (direction_number given) first.now (started_in_numbers result) }
+{
+    Stream::start(schedule, Direction::number(given), first)
+}
+
 // Under a schedule, from a first block.
 pub fn start(rt: &HostRuntime, schedule: Schedule, first: &[u8]) {
-    let Some(direction) = Direction::given(rt) else {
-        outcome::refused(rt, Refusal::Direction, "direction", 0);
-        return;
-    };
-    let begun = Stream::start(schedule, direction as u64, first);
+    let begun = begun(Direction::given(rt), schedule, first);
     match begun.answer {
         Ok(()) => work(rt, begun.stream),
+        Err(refusal) if refusal == Refusal::Direction => {
+            outcome::refused(rt, refusal, "direction", 0)
+        }
         Err(refusal) => outcome::refused(rt, refusal, "first", first.len() as u64),
     }
 }

@@ -1,5 +1,7 @@
 // What the words of a command mean: a direction, a cipher.
+ghost use Rattle.std.specs.Prelude.{◌≡◌};
 ghost use Rattle.io.specs.Counts.{IsPrefixLen};
+ghost use Rattle.recipe_words.specs.Given.{direction_number, cipher_number};
 
 use spelling::word;
 use std::env::{Env, FillError};
@@ -56,6 +58,16 @@ impl Direction {
         }
         None
     }
+
+    // The number of the one that was given, or 0, which a call refuses.
+    pub fn number(given: Option<Self>) -> u64
+        ensures { result ≡ direction_number given }
+    {
+        match given {
+            Some(direction) => direction as u64,
+            None => 0,
+        }
+    }
 }
 
 // A cipher, with its number of 01, and of 02, request 2.
@@ -83,5 +95,15 @@ impl Cipher {
             return Some(Self::NoekeonEarlier);
         }
         None
+    }
+
+    // The number of the one that was given, or 0, which a call refuses.
+    pub fn number(given: Option<Self>) -> u64
+        ensures { result ≡ cipher_number given }
+    {
+        match given {
+            Some(cipher) => cipher as u64,
+            None => 0,
+        }
     }
 }

@@ -1,0 +1,2 @@
+-- What the words of a command stand for.
+pub mod Given
