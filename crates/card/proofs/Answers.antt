@@ -16,9 +16,8 @@ use Rattle.card_slots.specs.Card.{slot, slots, every, some, pairs, none_twice, g
 use Rattle.card_slots.specs.Find.{place, named, found, find_part, find_at}
 use Rattle.card.specs.Put.{namesake, goes_to, nowhere, put_answer, written, put_card}
 use Rattle.std.specs.Prelude.{Some, None}
-use Rattle.card_keys.specs.declared.Keys.{Keys}
 use Rattle.card_keys.specs.code.Keys.{InOrder, Apart}
-use Rattle.card.specs.code.Order.{JudgesInOrder}
+use Rattle.card.specs.code.Order.{JudgesTo}
 use Rattle.card_slots.proofs.Rules.{record_16}
 use Rattle.card_slots.proofs.Slots.{slots_length, slots_at}
 use Rattle.card_slots.proofs.Twice.{every_some, some-place}
@@ -56,30 +55,31 @@ module _ (card : List ℕ) where
       good_legal h f = rw (eq-eqb _ _ a, le-leb _ _ b, every_some legal (slots card), has_not illegal card x e h) f
 
 -- judged with the keys of its slots in order
-pub judged_bad : (card : List ℕ) → false ≡ good card → JudgesInOrder card None
-judged_bad card e = record { answered = e; ordered = tt }
+pub judged_bad : (card places : List ℕ) → false ≡ good card → JudgesTo card None places
+judged_bad card places e = record { answered = e; few = tt; ordered = tt }
 
 module _ (card : List ℕ) (a : length card % 16 ≡ 0) (b : length card ≤ 4096) (x : ℕ) (e : x ≡ place illegal (slots card)) (h : length card / 16 ≤ x)
-    (keys : Keys) (w : InOrder card keys.places keys.len) (r : Bool) (apart : Apart (take keys.len keys.places) r) where
+    (places : List ℕ) (n : ℕ) (w : InOrder card places n) (r : Bool) (apart : Apart (take n places) r) where
   all_legal : every legal (slots card) ≡ true
   all_legal = every_some legal (slots card) ∙ ap not (has_not illegal card x e h)
 
-  few : length card / 16 ≤ 256
-  few = omega arith
+  few_slots : length card / 16 ≤ 256
+  few_slots = omega arith
 
   good_is : r ≡ good card
-  good_is = good_legal card a b x e h (apart_none card (take keys.len keys.places) w.sorted all_legal few apart)
+  good_is = good_legal card a b x e h (apart_none card (take n places) w.sorted all_legal few_slots apart)
 
-  pub judged_twice : r ≡ false → JudgesInOrder card None
-  judged_twice z = judged_bad card (sym z ∙ good_is)
+  pub judged_twice : r ≡ false → JudgesTo card None places
+  judged_twice z = judged_bad card places (sym z ∙ good_is)
 
-  pub judged_ordered : length keys.places ≡ 256 → r ≡ true → JudgesInOrder card (Some keys)
+  pub judged_ordered : length places ≡ 256 → r ≡ true → JudgesTo card (Some n) places
   judged_ordered long z =
       let most = w.few in
-      let l = length-take-le keys.len keys.places (omega arith) in
+      let l = length-take-le n places (omega arith) in
       record {
         answered = sym z ∙ good_is;
-        ordered = apart_ordered card (take keys.len keys.places) w.sorted all_legal few apart (omega arith) z;
+        few = most;
+        ordered = apart_ordered card (take n places) w.sorted all_legal few_slots apart (omega arith) z;
       }
 
 -- ---- finding

@@ -5,7 +5,7 @@ ghost use Rattle.std.specs.Prelude.{◌≡◌, length};
 ghost use Rattle.refusals.specs.Numbers.{number};
 ghost use Rattle.card_slots.specs.Card.{slots};
 ghost use Rattle.card.specs.Put.{goes_to};
-ghost use Rattle.card.specs.code.Order.{JudgesInOrder};
+ghost use Rattle.card.specs.code.Order.{JudgesInOrder, JudgesTo};
 ghost use Rattle.card.specs.Promises.{Judges, Finds, Puts};
 
 use card_keys::Keys;
@@ -13,9 +13,9 @@ use card_slots::slot::Slot;
 use card_slots::{search, slot};
 use refusals::Answer;
 
-// The keys of a good card's filled slots, by recipe, then segment; none where the card is bad.
-pub fn judge(card: &[u8]) -> Option<Keys>
-    ensures { JudgesInOrder card.now result }
+// A card judged: how many filled slots a good one has, whose keys are put to the front of the places, by recipe, then segment.
+pub fn judged(card: &[u8], places: &mut [u32; 256]) -> Option<usize>
+    ensures { JudgesTo card.now result places.new }
 {
     if card.len() % 16 != 0 {
         return None;
@@ -26,18 +26,28 @@ pub fn judge(card: &[u8]) -> Option<Keys>
     if search::of_illegal(card) < card.len() / 16 {
         return None;
     }
-    let keys = Keys::by_pair(card);
-    if !card_keys::apart(keys.as_slice()) {
+    let n = card_keys::by_pair(card, places);
+    if !card_keys::apart(&places[..n]) {
         return None;
     }
-    Some(keys)
+    Some(n)
+}
+
+// The keys of a good card's filled slots, by recipe, then segment; none where the card is bad.
+pub fn judge(card: &[u8]) -> Option<Keys>
+    ensures { JudgesInOrder card.now result }
+{
+    let mut places = [0u32; 256];
+    let len = judged(card, &mut places)?;
+    Some(Keys { places, len })
 }
 
 // Is the card good?
 pub fn good(card: &[u8]) -> bool
     ensures { Judges card.now result }
 {
-    judge(card).is_some()
+    let mut places = [0u32; 256];
+    judged(card, &mut places).is_some()
 }
 
 // The very slot of a recipe's segment, a part of the lent card; its empty part where there is none or the card is bad.

@@ -37,35 +37,33 @@ pub fn apart(keys: &[u32]) -> bool
     true
 }
 
-impl Keys {
-    // Those of the slots that have a pair, as they stand on the card.
-    fn unsorted(card: &[u8]) -> Keys
-        requires { length card.now / 16 ≤ 256 }
-        ensures { take result.len result.places ≡ spec.keys_from 0 (slots card.now) }
-    {
-        let mut places = [0u32; 256];
-        let mut len: usize = 0;
-        for i in 0..card.len() / 16 {
-            let k = key(Slot::at(card, i), i);
-            places[len] = k;
-            if k >= 256 {
-                len += 1;
-            }
+// The keys of the slots that have a pair, as they stand on the card, at the front of the places: how many.
+fn unsorted(card: &[u8], places: &mut [u32; 256]) -> usize
+    requires { length card.now / 16 ≤ 256 }
+    ensures { (result ≤ 256) × (take result places.new ≡ spec.keys_from 0 (slots card.now)) }
+{
+    let mut len: usize = 0;
+    for i in 0..card.len() / 16 {
+        let k = key(Slot::at(card, i), i);
+        places[len] = k;
+        if k >= 256 {
+            len += 1;
         }
-        Keys { places, len }
     }
+    len
+}
 
-    // The same in the order of the pairs.
-    pub fn by_pair(card: &[u8]) -> Keys
-        requires { length card.now / 16 ≤ 256 }
-        ensures { spec.InOrder card.now result.places result.len }
-    {
-        let mut keys = Keys::unsorted(card);
-        let n = keys.len;
-        sorting::sort(&mut keys.places[0..n]);
-        keys
-    }
+// The same in the order of the pairs. The places are borrowed: as a value, the kilobyte would be copied at each step.
+pub fn by_pair(card: &[u8], places: &mut [u32; 256]) -> usize
+    requires { length card.now / 16 ≤ 256 }
+    ensures { spec.InOrder card.now places.new result }
+{
+    let n = unsorted(card, places);
+    sorting::sort(&mut places[0..n]);
+    n
+}
 
+impl Keys {
     pub fn as_slice(&self) -> &[u32]
         ensures { result.now ≡ take self.now.len self.now.places }
     {

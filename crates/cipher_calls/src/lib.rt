@@ -9,9 +9,10 @@ use std::io::Input;
 
 // A schedule: cipher number, key length, round keys.
 pub fn keep(rt: &impl Input) -> Option<Schedule> {
+    let [cipher, key_length] = reading::array::<2>(rt)?;
     Some(Schedule {
-        cipher: reading::byte(rt)?,
-        key_length: reading::byte(rt)?,
+        cipher,
+        key_length,
         round_keys: reading::array(rt)?,
     })
 }

@@ -146,6 +146,19 @@ puts_nothing out at h =
     let n : at ≡ at + length {A = ℕ} [] = omega arith in
     record { leaves = sym (nothing_laid out at); place = n ∙ behind-text out at [] (omega arith) }
 
+-- one byte put, or none where the space ends
+pub puts_byte : (out : List ℕ) (at c : ℕ) → at < length out → Puts (c ∷ []) out at (set out at c) (at + 1)
+puts_byte out at c h = record {
+  leaves = sym (nothing_laid (set out at c) (at + 1)) ∙ one_laid out at c [] h;
+  place = behind-text out at (c ∷ []) (omega arith);
+}
+
+pub puts_no_byte : (out : List ℕ) (at c : ℕ) → at ≡ length out → Puts (c ∷ []) out at out at
+puts_no_byte out at c e = record {
+  leaves = sym (no_room_lem out at (c ∷ []) (omega arith));
+  place = e ∙ behind_all out at (c ∷ []) (omega arith);
+}
+
 -- ---- a text put at the front of a space stands there, as far as there is room
 pub front_laid : (out text : List ℕ) → take (behind out 0 text) (laid out 0 text) ≡ take (length out) text
 unfolding laid behind

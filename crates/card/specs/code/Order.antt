@@ -18,6 +18,12 @@ pub record Ordered (card keys : List ℕ) : Type 0 where
   pub each : (u : ℕ) → u < length keys → Key card (get_or keys u 0)
   pub all : (i : ℕ) → i < length card / 16 → 256 ≤ key_of (slot card i) i → (u : ℕ) × (u < length keys) × (get_or keys u 0 ≡ key_of (slot card i) i)
 
+-- a card judged: how many keys where it is good, at the front of the places, and none else
+pub record JudgesTo (card : List ℕ) (r : Option ℕ) (places : List ℕ) : Type 0 where
+  pub answered : is_some r ≡ good card
+  pub few : IfSome r (λ n. n ≤ 256)
+  pub ordered : IfSome r (λ n. Ordered card (take n places))
+
 -- a card judged: keys where it is good, and none else
 pub record JudgesInOrder (card : List ℕ) (r : Option Keys) : Type 0 where
   pub answered : is_some r ≡ good card

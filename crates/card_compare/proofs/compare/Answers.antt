@@ -13,6 +13,6 @@ returns c =
     let few = c.changes-n.ensures.0 in
     let room : c.changes-n.result ≤ length list = omega arith in
     let z : c.to_write-w.result - 0 ≡ c.to_write-w.result = omega arith in
-    outcome c.args.first.now c.args.second.now c.args.out.now list (c.is_some.ensures ∙ c.judge-one.ensures.answered) (c.is_some-2.ensures ∙ c.judge-two.ensures.answered)
+    outcome c.args.first.now c.args.second.now c.args.out.now list (c.is_some.ensures ∙ c.judged-one.ensures.answered) (c.is_some-2.ensures ∙ c.judged-two.ensures.answered)
     room (λ x y. c.changes-n.ensures.1 (sym c.is_some.ensures ∙ x) (sym c.is_some-2.ensures ∙ y)) c.first-answer.ensures c.to_write-w.ensures.1
     (c.write.ensures ∙ ap (λ (m : ℕ). bytes_of (take m list) ++ drop (length (take m list) * 4) c.args.out.now) z)

@@ -13,4 +13,4 @@ returns-in-126 c = let a = c.args in
 
 pub returns-in_default : goal.returns-in_default
 returns-in_default c = let a = c.args in
-    adds_as (stands_itself a.n a.c (search rules) (search rules)) c.words.ensures
+    adds_as (stands_itself a.n a.c (search rules) (search rules)) c.byte.ensures

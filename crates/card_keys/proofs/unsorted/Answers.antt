@@ -1,6 +1,6 @@
 use native.Mathlib.Omega.{arith}
 use Rattle.card_keys.proofs.Collected.{collected_next, collected_end}
-use Rattle.card_keys.proofs.Keys.unsorted.Goals as goal
+use Rattle.card_keys.proofs.unsorted.Goals as goal
 
 pub loop-i-preserved : goal.loop-i-preserved
 loop-i-preserved c =
@@ -12,4 +12,9 @@ loop-i-preserved c =
     collected_next w few h l e (λ u. grind arith) (λ u. grind arith)
 
 pub returns : goal.returns
-returns c = collected_end c.loop-i.invariant (omega arith)
+returns c =
+    let w = c.loop-i.invariant in
+    let low = w.low in
+    let inside = w.inside in
+    let few = c.requires in
+    (omega arith, collected_end w (omega arith))
