@@ -27,7 +27,7 @@ pub next_line : (l : List ℕ) → 0 < length l → lines l ≡ line_of l ∷ li
 next_line [] h = absurd (omega arith)
 next_line (c ∷ t) h = first_line c t
 
-line_within : (l : List ℕ) → length (line_of l) ≤ length l
+pub line_within : (l : List ℕ) → length (line_of l) ≤ length l
 line_within [] = omega arith
 line_within (c ∷ t) = go (eqb c 10) (line_within t)
   where

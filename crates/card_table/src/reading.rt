@@ -28,19 +28,27 @@ fn without_mark(table: &[u8]) -> &[u8]
     }
 }
 
+// The place of the first line feed, or the end.
+fn line_feed(text: &[u8]) -> usize
+    ensures { result ≡ length (line_of text.now) }
+{
+    for (i, c) in text.iter().enumerate() {
+        if *c == b'\n' {
+            return i;
+        }
+    }
+    text.len()
+}
+
 // The first line, and what follows its line feed.
 fn first_line(text: &[u8]) -> (&[u8], &[u8])
     ensures line { result.0.now ≡ line_of text.now }
     ensures rest { result.1.now ≡ drop (suc (length (line_of text.now))) text.now }
 {
-    for (i, c) in text.iter().enumerate() {
-        if *c == b'\n' {
-            let line = part(text, 0, i);
-            let rest = part(text, i + 1, text.len());
-            return (line, rest);
-        }
-    }
-    (text, &text[text.len()..])
+    let end = line_feed(text);
+    let line = part(text, 0, end);
+    let rest = part(text, end + 1, text.len());
+    (line, rest)
 }
 
 // A line without a carriage return at its end.

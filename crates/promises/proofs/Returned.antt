@@ -1,5 +1,7 @@
 -- A result is one with another where both are the same in numbers: so the theorems of Unique, which speak of numbers, fix what is returned.
 use mathlib.Core.Path.{◌≡◌, ap}
+use Rattle.std.specs.Prelude.{Result}
+use Rattle.refusals.specs.declared.Refusal.{Refusal}
 use Rattle.refusals.proofs.Numbers.{one_number}
 use Rattle.cipher.specs.Numbered as ciphers
 use Rattle.stream.specs.Numbered as streams
@@ -16,7 +18,7 @@ use Rattle.seal.specs.declared.Checked as seal-checked
 pub told_set_up : (r r' : cipher-setup.SetUp) → ciphers.in_numbers r ≡ ciphers.in_numbers r' → r ≡ r'
 told_set_up r r' e = λ j. record { answer = one_number r.answer r'.answer (ap (λ (x : ciphers.SetUp). x.answer) e) j; schedule = (e j).schedule }
 
-pub told_start : (r r' : stream-started.Started) → streams.started_in_numbers r ≡ streams.started_in_numbers r' → r ≡ r'
+pub told_start : (r r' : stream-started.Started (Result Unit Refusal)) → streams.started_in_numbers r ≡ streams.started_in_numbers r' → r ≡ r'
 told_start r r' e = λ j. record { answer = one_number r.answer r'.answer (ap (λ (x : streams.Started). x.answer) e) j; stream = (e j).stream }
 
 pub told_feed : (r r' : stream-fed.Fed) → streams.fed_in_numbers r ≡ streams.fed_in_numbers r' → r ≡ r'

@@ -1,8 +1,11 @@
 // For each public call a thin caller that gets exactly its promise, so that a contract which promises less is refused here. docs/PROMISES.md is the index.
 #![tactic(auto)]
 
+ghost use Rattle.std.specs.Prelude.{◌≡◌};
 ghost use Rattle.refusals.specs.Numbers.{number};
 ghost use Rattle.cipher.specs.Numbered.{in_numbers};
+ghost use Rattle.stream.specs.State.{zero_stream};
+ghost use Rattle.stream.specs.Calls.{started_as};
 ghost use Rattle.stream.specs.Numbered.{started_in_numbers, fed_in_numbers, finished_in_numbers};
 ghost use Rattle.seal.specs.Numbered as seals;
 ghost use Rattle.hex_digits.specs.Read.{Read};
@@ -46,6 +49,13 @@ pub fn start(schedule: Schedule, direction: u64, first: &[u8]) -> Started
     ensures { Starts schedule direction first.now (started_in_numbers result) }
 {
     Stream::start(schedule, direction, first)
+}
+
+// Any number, also one that no refusal has.
+pub fn not_started(answer: u8) -> Started<u8>
+    ensures { result ≡ started_as answer zero_stream }
+{
+    stream::not_started(answer)
 }
 
 pub fn feed(s: Stream, piece: &[u8], out: &mut [u8]) -> Fed

@@ -9,6 +9,7 @@ use Rattle.cbc.specs.Cbc.{out, chain, join, blocks, completed}
 use Rattle.pieces.specs.Pieces.{limit, held15}
 use Rattle.stream.specs.State.{stream_of, fresh, held_number, at_hand, bad_state, zero_stream}
 use Rattle.stream.specs.declared.Stream.{Stream}
+use Rattle.stream.specs.declared.Started as started
 use Rattle.stream.specs.Numbered.{Started}
 use Rattle.stream.specs.Numbered.{Fed}
 use Rattle.stream.specs.Numbered.{Finished}
@@ -17,7 +18,7 @@ use Rattle.stream.specs.Numbered.{Finished}
 unfoldable pub start_refusal : Schedule → ℕ → (first : ℕ) → ℕ
 start_refusal s d n = start_order (bad s) (not (is_direction d)) (not (eqb n 16))
 
-abbrev pub started_as : (answer : ℕ) → Stream → Started
+abbrev pub started_as : {A : Type 0} → (answer : A) → Stream → started.Started A
 started_as n s = record { answer = n; stream = s }
 
 unfoldable pub start : Schedule → ℕ → List ℕ → Started

@@ -1,14 +1,14 @@
 -- What start, a piece and finish return, their answers by the paper's numbers.
-use Rattle.std.specs.Prelude.{ℕ}
+use Rattle.std.specs.Prelude.{ℕ, Result}
 use Rattle.refusals.specs.Numbers.{number}
+use Rattle.refusals.specs.declared.Refusal.{Refusal}
 use Rattle.stream.specs.declared.Stream.{Stream}
 use Rattle.stream.specs.declared.Started as started
 use Rattle.stream.specs.declared.Fed as fed
 use Rattle.stream.specs.declared.Finished as finished
 
-pub record Started : Type 0 where
-  pub answer : ℕ
-  pub stream : Stream
+abbrev pub Started : Type 0
+Started = started.Started ℕ
 
 pub record Fed : Type 0 where
   pub answer : ℕ
@@ -19,7 +19,7 @@ pub record Finished : Type 0 where
   pub answer : ℕ
   pub next : Stream
 
-abbrev pub started_in_numbers : started.Started → Started
+abbrev pub started_in_numbers : started.Started (Result Unit Refusal) → Started
 started_in_numbers r = record { answer = number r.answer; stream = r.stream }
 
 abbrev pub fed_in_numbers : fed.Fed → Fed

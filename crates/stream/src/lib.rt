@@ -2,13 +2,13 @@
 #![tactic(auto)]
 
 use cipher::Schedule;
-use refusals::{Answer, Refusal};
+use refusals::Answer;
 
 mod blocks;
 pub mod state;
 
 ghost use Rattle.std.specs.Prelude.{◌≡◌};
-ghost use Rattle.refusals.specs.Numbers.{number, number_of};
+ghost use Rattle.refusals.specs.Numbers.{number};
 ghost use Rattle.stream.specs.State.{fresh, zero_stream};
 ghost use Rattle.stream.specs.Calls.{started_as, fed_as};
 ghost use Rattle.stream.specs.Numbered.{started_in_numbers, fed_in_numbers, finished_in_numbers};
@@ -25,10 +25,10 @@ pub struct Stream {
 }
 
 // No Results, these three: a refused call too gives a state and a count beside its answer, which `Starts`, `Feeds` and
-// `Finishes` promise.
+// `Finishes` promise. `Started<u8>` has a number for its answer.
 #[derive(Clone, Copy)]
-pub struct Started {
-    pub answer: Answer,
+pub struct Started<A = Answer> {
+    pub answer: A,
     pub stream: Stream,
 }
 
@@ -59,12 +59,12 @@ fn fresh(schedule: Schedule, direction: u8, first: [u8; 16]) -> Stream
     }
 }
 
-// A refused start, with the all-zero stream.
-pub fn not_started(refusal: Refusal) -> Started
-    ensures { started_in_numbers result ≡ started_as (number_of refusal) zero_stream }
+// A refused start, with the all-zero stream: its answer is the caller's, as an `Answer` or as a number.
+pub fn not_started<A>(answer: A) -> Started<A>
+    ensures { result ≡ started_as answer zero_stream }
 {
     Started {
-        answer: Err(refusal),
+        answer,
         stream: fresh(cipher::no_schedule(), 0, [0u8; 16]),
     }
 }
@@ -88,7 +88,7 @@ impl Stream {
         ensures { Starts schedule direction first.now (started_in_numbers result) }
     {
         if let Err(refusal) = state::start_refusal(&schedule, direction, first.len()) {
-            return not_started(refusal);
+            return not_started(Err(refusal));
         }
         Started {
             answer: Ok(()),

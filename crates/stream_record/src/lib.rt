@@ -108,7 +108,7 @@ pub fn take_up(schedule: Schedule, record: &[u8]) -> Started
     ensures { TakesUp schedule «record».now (started_in_numbers result) }
 {
     if let Err(refusal) = take_up_refusal(schedule, record) {
-        return stream::not_started(refusal);
+        return stream::not_started(Err(refusal));
     }
     Started {
         answer: Ok(()),

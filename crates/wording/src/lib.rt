@@ -56,7 +56,7 @@ impl<'a> Text<'a> {
         self.number(n % 10);
     }
 
-    // By itself, since `words` copies a slice, which for one byte takes four times as long.
+    // By itself, since `words` copies a slice, which is more work for one byte.
     fn byte(&mut self, c: u8)
         ensures { Adds (c ∷ []) self.old self.new }
     {

@@ -2,13 +2,14 @@ use mathlib.Core.Path.{◌≡◌, sym, ap, ◌∙◌}
 use Rattle.refusals.specs.Refusals.{done}
 use Rattle.refusals.proofs.Numbers.{not_done}
 use Rattle.stream.specs.Calls.{started_as}
+use Rattle.stream.specs.Numbered.{started_in_numbers}
 use Rattle.stream_record.specs.Record.{stream_from}
 use Rattle.stream_record.specs.Calls.{take_up_refusal}
 use Rattle.stream_record.proofs.Outcomes.{accepted, not_taken, taken_up}
 use Rattle.stream_record.proofs.take_up.Goals as goal
 
 pub returns-in-Err : goal.returns-in-Err
-returns-in-Err c = record { returned = c.not_started.ensures ∙ not_taken _ _ _ c.in-Err.ensures (not_done c.in-Err.refusal) }
+returns-in-Err c = record { returned = ap started_in_numbers c.not_started.ensures ∙ not_taken _ _ _ c.in-Err.ensures (not_done c.in-Err.refusal) }
 
 pub read-requires : goal.read-requires
 read-requires c =

@@ -4,11 +4,12 @@ use lib.ListN.{length}
 use Rattle.refusals.specs.Refusals.{done}
 use Rattle.refusals.proofs.Numbers.{not_done}
 use Rattle.stream.specs.Calls.{start_refusal, started_as}
+use Rattle.stream.specs.Numbered.{started_in_numbers}
 use Rattle.stream.proofs.Outcomes.{start_refused, AcceptedStart, accepted_start, start-done, direction_small}
 use Rattle.stream.proofs.Stream.start.Goals as goal
 
 pub returns-in-Err : goal.returns-in-Err
-returns-in-Err c = record { returned = c.not_started.ensures ∙ start_refused _ _ _ _ c.in-Err.ensures (not_done c.in-Err.refusal) }
+returns-in-Err c = record { returned = ap started_in_numbers c.not_started.ensures ∙ start_refused _ _ _ _ c.in-Err.ensures (not_done c.in-Err.refusal) }
 
 pub part-requires : goal.part-requires
 part-requires c =
