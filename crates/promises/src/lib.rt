@@ -51,7 +51,7 @@ pub fn start(schedule: Schedule, direction: u64, first: &[u8]) -> Started
     Stream::start(schedule, direction, first)
 }
 
-// Any number, also one that no refusal has.
+// For the crates above `stream`, so without a named promise: any number, also one that no refusal has.
 pub fn not_started(answer: u8) -> Started<u8>
     ensures { result ≡ started_as answer zero_stream }
 {

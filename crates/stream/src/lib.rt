@@ -59,7 +59,7 @@ fn fresh(schedule: Schedule, direction: u8, first: [u8; 16]) -> Stream
     }
 }
 
-// A refused start, with the all-zero stream: its answer is the caller's, as an `Answer` or as a number.
+// A refused start, with the all-zero stream. Its answer is the caller's, of any type: an `Answer`, or a number.
 pub fn not_started<A>(answer: A) -> Started<A>
     ensures { result ≡ started_as answer zero_stream }
 {
